@@ -1,3 +1,4 @@
 pub mod Field
 pub mod Leaf
 pub mod Name
+pub mod Text

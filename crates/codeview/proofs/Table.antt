@@ -1,0 +1,77 @@
+-- The table of primitive types: what a search of it does, and that it has each code once. Assumes nothing.
+use Prim.Native.Nat.{ℕ, zero, suc, _+_, _≤_, _<_}
+use native.Mathlib.Nat.{le-of-suc-le-suc, not-suc-le-zero}
+use native.Mathlib.Numerals.{add-one}
+use native.Mathlib.Omega.{arith}
+use mathlib.Core.Path.{_≡_, refl, sym, _∙_}
+use mathlib.Core.Bool.{Bool, true, false}
+use mathlib.Core.List.{List, [], _∷_, map}
+use lib.ListN.{length, getD, drop, drop-of-length-le}
+use lib.Seq.{drop-cons}
+use lib.Dec.{T, ltb}
+use borrow.Author.Tests.{eq-eqb, ne-eqb, ltb-true}
+use Rattle.wire.specs.Field.{pick}
+use Rattle.codeview.specs.Primitive.{primitives, empty, firstOf}
+use Rattle.codeview.specs.declared.primitive.PrimitiveKind.{PrimitiveKind}
+
+-- An element inside a list does not depend on what stands for those past its end.
+pub same-inside : {A : Type 0} (l : List A) (i : ℕ) (d e : A) → i < length l → getD l i d ≡ getD l i e
+same-inside [] i d e h = absurd (not-suc-le-zero h)
+same-inside (x ∷ l) zero d e h = refl
+same-inside (x ∷ l) (suc i) d e h = same-inside l i d e (le-of-suc-le-suc h)
+
+-- A search from a place on finds the entry there, or goes on behind it; at the end it finds nothing.
+module _ {A : Type 0} (code : ℕ) (l : List PrimitiveKind) (i : ℕ) (found : PrimitiveKind → A) (none : A) where
+  module _ (h : i < length l) (k : PrimitiveKind) (e : k ≡ getD l i empty) where
+    pub found-here : k .code ≡ code → found k ≡ firstOf code (drop i l) found none
+    unfolding firstOf
+    found-here t = rw (drop-cons l i empty h, ← e, eq-eqb (k .code) code t)
+
+    pub found-later : (k .code ≡ code → ⊥) → firstOf code (drop (i + 1) l) found none ≡ firstOf code (drop i l) found none
+    unfolding firstOf
+    found-later t = rw (drop-cons l i empty h, add-one i, ← e, ne-eqb (k .code) code t)
+
+  pub found-nowhere : length l ≤ i → none ≡ firstOf code (drop i l) found none
+  unfolding firstOf
+  found-nowhere h = rw (drop-of-length-le l h)
+
+-- The table has 43 kinds.
+pub forty-three : length primitives ≡ 43
+unfolding primitives
+forty-three = refl
+
+-- Each code of a list is below the next.
+abbrev rising : List ℕ → Bool
+rising [] = true
+rising (a ∷ []) = true
+rising (a ∷ b ∷ l) = pick (ltb a b) (rising (b ∷ l)) false
+
+head-below : (a b : ℕ) (l : List ℕ) → T (rising (a ∷ b ∷ l)) → (a < b) × T (rising (b ∷ l))
+head-below a b l t = go (ltb a b) refl t
+  where
+    go : (c : Bool) → ltb a b ≡ c → T (pick c (rising (b ∷ l)) false) → (a < b) × T (rising (b ∷ l))
+    go true e t = (ltb-true a b e, t)
+    go false e t = absurd t
+
+below-all : (a : ℕ) (l : List ℕ) → T (rising (a ∷ l)) → (j : ℕ) → j < length l → a < getD l j 0
+below-all a [] t j h = absurd (not-suc-le-zero h)
+below-all a (b ∷ l) t zero h = head-below a b l t .0
+below-all a (b ∷ l) t (suc j) h =
+    let q = head-below a b l t in
+    let r = below-all b l (q .1) j (le-of-suc-le-suc h) in
+    omega arith
+
+tail-rising : (a : ℕ) (l : List ℕ) → T (rising (a ∷ l)) → T (rising l)
+tail-rising a [] t = tt
+tail-rising a (b ∷ l) t = head-below a b l t .1
+
+in-order : (l : List ℕ) → T (rising l) → (i j : ℕ) → i < j → j < length l → getD l i 0 < getD l j 0
+in-order [] t i j h k = absurd (not-suc-le-zero k)
+in-order (a ∷ l) t i zero h k = absurd (not-suc-le-zero h)
+in-order (a ∷ l) t zero (suc j) h k = below-all a l t j (le-of-suc-le-suc k)
+in-order (a ∷ l) t (suc i) (suc j) h k = in-order l (tail-rising a l t) i j (le-of-suc-le-suc h) (le-of-suc-le-suc k)
+
+-- The table's rule, computed once over the whole table: the codes rise, so each stands in it once.
+pub codes-rise : (i j : ℕ) → i < j → j < 43 → getD (map (λ k. k .code) primitives) i 0 < getD (map (λ k. k .code) primitives) j 0
+unfolding primitives
+codes-rise i j h k = in-order (map (λ k. k .code) primitives) tt i j h k

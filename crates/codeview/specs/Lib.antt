@@ -1,0 +1,3 @@
+pub mod Primitive
+pub mod Refusal
+pub mod Stream
