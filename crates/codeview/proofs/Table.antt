@@ -3,16 +3,18 @@ use Prim.Native.Nat.{ℕ, zero, suc, _+_, _≤_, _<_}
 use native.Mathlib.Nat.{le-of-suc-le-suc, not-suc-le-zero}
 use native.Mathlib.Numerals.{add-one}
 use native.Mathlib.Omega.{arith}
-use mathlib.Core.Path.{_≡_, refl, sym, _∙_}
+use mathlib.Core.Path.{_≡_, refl, sym, _∙_, ap}
 use mathlib.Core.Bool.{Bool, true, false}
 use mathlib.Core.List.{List, [], _∷_, map}
 use lib.ListN.{length, getD, drop, drop-of-length-le}
 use lib.Seq.{drop-cons}
-use lib.Dec.{T, ltb}
+use lib.Dec.{T, ltb, eqb}
 use borrow.Author.Tests.{eq-eqb, ne-eqb, ltb-true}
 use Rattle.wire.specs.Field.{pick}
-use Rattle.codeview.specs.Primitive.{primitives, empty, firstOf}
+use Rattle.wire.proofs.Laws.{map-pick}
+use Rattle.codeview.specs.Primitive.{primitives, empty, firstOf, listed, nowhere}
 use Rattle.codeview.specs.declared.primitive.PrimitiveKind.{PrimitiveKind}
+use Rattle.codeview.specs.declared.primitive.PrimitiveSearch.{PrimitiveSearch}
 
 -- An element inside a list does not depend on what stands for those past its end.
 pub same-inside : {A : Type 0} (l : List A) (i : ℕ) (d e : A) → i < length l → getD l i d ≡ getD l i e
@@ -34,6 +36,20 @@ module _ {A : Type 0} (code : ℕ) (l : List PrimitiveKind) (i : ℕ) (found : P
   pub found-nowhere : length l ≤ i → none ≡ firstOf code (drop i l) found none
   unfolding firstOf
   found-nowhere h = rw (drop-of-length-le l h)
+
+-- What a search says of all that goes by it.
+map-first : {A B : Type 0} (f : A → B) (code : ℕ) (l : List PrimitiveKind) (k : PrimitiveKind → A) (z : A) → f (firstOf code l k z) ≡ firstOf code l (λ e. f (k e)) (f z)
+unfolding firstOf
+map-first f code [] k z = refl
+map-first {A} {B} f code (x ∷ l) k z =
+    map-pick f (eqb (x .code) code) (k x) (firstOf code l k z)
+    ∙ ap (λ (y : B). pick (eqb (x .code) code) (f (k x)) y) (map-first f code l k z)
+
+pub first-by : {A : Type 0} (code : ℕ) (l : List PrimitiveKind) {r : PrimitiveSearch} → r ≡ firstOf code l listed nowhere → {b : Bool} → r .listed ≡ b → (k : PrimitiveKind → A) (z : A) → firstOf code l k z ≡ pick b (k (r .kind)) z
+first-by code l {r} e {b} h k z =
+    sym (map-first (λ (r : PrimitiveSearch). pick (r .listed) (k (r .kind)) z) code l listed nowhere)
+    ∙ ap (λ (r : PrimitiveSearch). pick (r .listed) (k (r .kind)) z) (sym e)
+    ∙ ap (λ (c : Bool). pick c (k (r .kind)) z) h
 
 -- The table has 43 kinds.
 pub forty-three : length primitives ≡ 43

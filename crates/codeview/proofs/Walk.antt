@@ -2,14 +2,15 @@
 use Prim.Native.Nat.{ℕ, zero, suc, _+_, _-_, _≤_, _<_, min}
 use native.Mathlib.Nat.{not-suc-le-zero, zero-min, suc-min-suc}
 use native.Mathlib.Omega.{arith}
-use mathlib.Core.Path.{_≡_, refl, sym, _∙_, ap}
+use mathlib.Core.Path.{_≡_, refl, sym, _∙_, ap, fun-ext}
 use mathlib.Core.Bool.{Bool, true, false}
 use mathlib.Core.List.{List, [], _∷_}
-use lib.ListN.{length, take, length-take}
+use lib.ListN.{length, take, drop, length-take, length-drop}
 use lib.Seq.{take-nil}
 use lib.Dec.{leb, ltb, eqb}
 use borrow.Author.Tests.{leb-true}
 use Rattle.wire.specs.Field.{pick, number, field}
+use Rattle.wire.proofs.Laws.{map-pick, map-field, all-field}
 use Rattle.codeview.specs.Stream.{indexes, header, behind, passed, recordAt, lookUp}
 use Rattle.codeview.specs.declared.stream.Stream.{Stream}
 use Rattle.codeview.specs.declared.stream.Head.{Head}
@@ -48,40 +49,56 @@ module _ {A : Type 0} (P : A → Type 0) (s : List ℕ) where
       go next true h i = f (number 2 s (at + 2)) (at + 4) next h i
       go next false h i = p
 
--- What follows from a place can be said of the answer.
+-- A function of what follows is what follows with the function put on each answer.
+module _ {A B : Type 0} (f : A → B) (s : List ℕ) where
+  map-behind : (at : ℕ) (k : ℕ → A) (z : A) → f (behind s at k z) ≡ behind s at (λ n. f (k n)) (f z)
+  unfolding behind
+  map-behind at k z = simp (map-field f, map-pick f)
+
+  map-passed : (n at : ℕ) (k : ℕ → A) (z : A) → f (passed n s at k z) ≡ passed n s at (λ n. f (k n)) (f z)
+  unfolding passed
+  map-passed zero at k z = refl
+  map-passed (suc n) at k z =
+      map-behind at (λ at. passed n s at k z) z
+      ∙ ap (λ (g : ℕ → B). behind s at g (f z)) (fun-ext (λ at. map-passed n at k z))
+
+  map-record : (at : ℕ) (k : ℕ → ℕ → ℕ → A) (z : A) → f (recordAt s at k z) ≡ recordAt s at (λ a b c. f (k a b c)) (f z)
+  unfolding recordAt
+  map-record at k z =
+      map-behind at (λ next. field 2 s (at + 2) (λ kind. k kind (at + 4) next) z) z
+      ∙ ap (λ (g : ℕ → B). behind s at g (f z)) (fun-ext (λ next. map-field f 2 s (at + 2) (λ kind. k kind (at + 4) next) z))
+
+  map-header : (k : ℕ → ℕ → ℕ → A) (z : A) → f (header s k z) ≡ header s (λ a b c. f (k a b c)) (f z)
+  unfolding header indexes
+  map-header k z = simp (map-pick f, map-field f)
+
+map-look : {A B : Type 0} (f : A → B) (s : List ℕ) (t : Stream) (i : ℕ) (k : ℕ → ℕ → ℕ → A) (m x : A) → f (lookUp s t i k m x) ≡ lookUp s t i (λ a b c. f (k a b c)) (f m) (f x)
+unfolding lookUp
+map-look {A} {B} f s t i k m x =
+    map-pick f (leb 0x8000_0000 i) x _
+    ∙ ap (λ (y : B). pick (leb 0x8000_0000 i) (f x) y)
+    (map-pick f (ltb i (t .first)) m _
+    ∙ ap (λ (y : B). pick (ltb i (t .first)) (f m) y)
+    (map-pick f (leb (t .end) i) m _
+    ∙ ap (λ (y : B). pick (leb (t .end) i) (f m) y)
+    (map-passed f r (i - t .first) 56 (λ at. recordAt r at k m) m
+    ∙ ap (λ (g : ℕ → B). passed (i - t .first) r 56 g (f m)) (fun-ext (λ at. map-record f r at k m)))))
+  where
+    r : List ℕ
+    r = take (t .stop) s
+
+-- What follows, said of the answer.
 abbrev by : {A : Type 0} → Place → (ℕ → A) → A → A
 by (At at) k z = k at
 by Beyond k z = z
 
-behind-by : {A : Type 0} (s : List ℕ) (at : ℕ) (k : ℕ → A) (z : A) → behind s at k z ≡ by (behind s at At Beyond) k z
-unfolding behind field
-behind-by {A} s at k z = go (leb (at + 2) (length s)) (leb 2 (number 2 s at)) (leb (at + 2 + number 2 s at) (length s)) (at + 2 + number 2 s at)
-  where
-    go : (a b c : Bool) (n : ℕ) → pick a (pick b (pick c (k n) z) z) z ≡ by (pick a (pick b (pick c (At n) Beyond) Beyond) Beyond) k z
-    go true true true n = refl
-    go true true false n = refl
-    go true false c n = refl
-    go false b c n = refl
-
-by-by : {A : Type 0} (p : Place) (f : ℕ → Place) (g : ℕ → A) (k : ℕ → A) (z : A) → ((at : ℕ) → g at ≡ by (f at) k z) → by p g z ≡ by (by p f Beyond) k z
-by-by (At at) f g k z h = h at
-by-by Beyond f g k z h = refl
-
-passed-by : {A : Type 0} (n : ℕ) (s : List ℕ) (at : ℕ) (k : ℕ → A) (z : A) → passed n s at k z ≡ by (passed n s at At Beyond) k z
-unfolding passed
-passed-by zero s at k z = refl
-passed-by (suc n) s at k z =
-    behind-by s at (λ at. passed n s at k z) z
-    ∙ by-by (behind s at At Beyond) (λ at. passed n s at At Beyond) (λ at. passed n s at k z) k z (λ at. passed-by n s at k z)
-    ∙ ap (λ (p : Place). by p k z) (sym (behind-by s at (λ at. passed n s at At Beyond) Beyond))
-
 -- What an answered place says: whatever goes by it goes on from there, or stops.
 module _ (s : List ℕ) (at : ℕ) {r : Place} (e : r ≡ behind s at At Beyond) where
   pub behind-at : (x : ℕ) → r ≡ At x → {A : Type 0} (k : ℕ → A) (z : A) → behind s at k z ≡ k x
-  behind-at x h k z = behind-by s at k z ∙ ap (λ (p : Place). by p k z) (sym e ∙ h)
+  behind-at x h k z = sym (map-behind (λ (p : Place). by p k z) s at At Beyond) ∙ ap (λ (p : Place). by p k z) (sym e ∙ h)
 
   pub behind-beyond : r ≡ Beyond → {A : Type 0} (k : ℕ → A) (z : A) → behind s at k z ≡ z
-  behind-beyond h k z = behind-by s at k z ∙ ap (λ (p : Place). by p k z) (sym e ∙ h)
+  behind-beyond h k z = sym (map-behind (λ (p : Place). by p k z) s at At Beyond) ∙ ap (λ (p : Place). by p k z) (sym e ∙ h)
 
   pub behind-within : (x : ℕ) → r ≡ At x → (at + 4 ≤ x) × (x ≤ length s)
   behind-within x h =
@@ -91,10 +108,10 @@ module _ (s : List ℕ) (at : ℕ) {r : Place} (e : r ≡ behind s at At Beyond)
 
 module _ (n : ℕ) (s : List ℕ) (at : ℕ) {r : Place} (e : r ≡ passed n s at At Beyond) where
   pub passed-at : (x : ℕ) → r ≡ At x → {A : Type 0} (k : ℕ → A) (z : A) → passed n s at k z ≡ k x
-  passed-at x h k z = passed-by n s at k z ∙ ap (λ (p : Place). by p k z) (sym e ∙ h)
+  passed-at x h k z = sym (map-passed (λ (p : Place). by p k z) s n at At Beyond) ∙ ap (λ (p : Place). by p k z) (sym e ∙ h)
 
   pub passed-beyond : r ≡ Beyond → {A : Type 0} (k : ℕ → A) (z : A) → passed n s at k z ≡ z
-  passed-beyond h k z = passed-by n s at k z ∙ ap (λ (p : Place). by p k z) (sym e ∙ h)
+  passed-beyond h k z = sym (map-passed (λ (p : Place). by p k z) s n at At Beyond) ∙ ap (λ (p : Place). by p k z) (sym e ∙ h)
 
 -- A walk of no record, and of one more.
 pub passed-none : {A : Type 0} (n : ℕ) (s : List ℕ) (at : ℕ) (k : ℕ → A) (z : A) → n ≤ 0 → k at ≡ passed n s at k z
@@ -136,36 +153,15 @@ look-within s t i e kind start end h =
     (λ q. let w : _≡_ {A = ℕ} 0 1 = cc in absurd (omega arith))
     (λ q. let w : _≡_ {A = ℕ} 0 1 = cc in absurd (omega arith)) (sym e ∙ h)
 
--- A test only picks, and a field only goes on or stops: a function of what follows is what follows with the function put on each answer.
-map-pick : {A B : Type 0} (f : A → B) (b : Bool) (x y : A) → f (pick b x y) ≡ pick b (f x) (f y)
-map-pick f true x y = refl
-map-pick f false x y = refl
-
-map-field : {A B : Type 0} (f : A → B) (w : ℕ) (s : List ℕ) (at : ℕ) (k : ℕ → A) (z : A) → f (field w s at k z) ≡ field w s at (λ n. f (k n)) (f z)
-unfolding field
-map-field f w s at k z = map-pick f (leb (at + w) (length s)) (k (number w s at)) z
-
-map-header : {A B : Type 0} (f : A → B) (s : List ℕ) (k : ℕ → ℕ → ℕ → A) (z : A) → f (header s k z) ≡ header s (λ a b c. f (k a b c)) (f z)
-unfolding header indexes
-map-header f s k z = simp (map-pick f, map-field f)
-
-all-field : {A : Type 0} (P : A → Type 0) (w : ℕ) (s : List ℕ) (at : ℕ) (k : ℕ → A) (z : A) → ((n : ℕ) → P (k n)) → P z → P (field w s at k z)
-unfolding field
-all-field P w s at k z f p = go (leb (at + w) (length s))
-  where
-    go : (b : Bool) → P (pick b (k (number w s at)) z)
-    go true = f (number w s at)
-    go false = p
-
 -- Whatever holds of every answer that a whole header can give, and of the answer to a broken one, holds of what follows from a header.
 module _ {A : Type 0} (P : A → Type 0) (s : List ℕ) (k : ℕ → ℕ → ℕ → A) (z : A) (f : (first end stop : ℕ) → first ≤ end → stop ≤ length s → P (k first end stop)) (p : P z) where
   indexes-all : 56 ≤ length s → P (indexes s k z)
   unfolding indexes
   indexes-all h =
       all-field P 4 s 8 _ z
-      (λ first. all-field P 4 s 12 _ z
-      (λ end. all-field P 4 s 16 _ z
-      (λ bytes. go first end bytes (leb 0x1000 first) (leb first end) (leb end 0x8000_0000) (leb bytes (length s - 56)) refl refl) p) p) p
+      (λ first i. all-field P 4 s 12 _ z
+      (λ end j. all-field P 4 s 16 _ z
+      (λ bytes l. go first end bytes (leb 0x1000 first) (leb first end) (leb end 0x8000_0000) (leb bytes (length s - 56)) refl refl) p) p) p
     where
       go : (first end bytes : ℕ) (a b c d : Bool) → leb first end ≡ b → leb bytes (length s - 56) ≡ d → P (pick a (pick b (pick c (pick d (k first end (56 + bytes)) z) z) z) z)
       go first end bytes true true true true e i = f first end (56 + bytes) (leb-true first end e) (omega (arith, leb-true bytes (length s - 56) i))
@@ -183,7 +179,7 @@ module _ {A : Type 0} (P : A → Type 0) (s : List ℕ) (k : ℕ → ℕ → ℕ
       sized h size false = p
 
       go : (a b : Bool) → leb 56 (length s) ≡ b → P (pick a (pick b (field 4 s 4 (λ size. pick (eqb size 56) (indexes s k z) z) z) z) z)
-      go true true e = all-field P 4 s 4 _ z (λ size. sized (leb-true 56 (length s) e) size (eqb size 56)) p
+      go true true e = all-field P 4 s 4 _ z (λ size i. sized (leb-true 56 (length s) e) size (eqb size 56)) p
       go true false e = p
       go false b e = p
 
@@ -211,3 +207,20 @@ take-shorter [] zero = take-nil (min 0 0)
 take-shorter [] (suc n) = take-nil (min (suc n) 0)
 take-shorter (x ∷ s) zero = rw (zero-min (suc (length s)))
 take-shorter (x ∷ s) (suc n) = rw (suc-min-suc n (length s)) (ap (λ (l : List ℕ). x ∷ l) (take-shorter s n))
+
+-- What a look-up says of all that goes by it.
+abbrev pub byFound : {A : Type 0} → Found → (ℕ → ℕ → ℕ → A) → A → A → A
+byFound (Record a b c) k m x = k a b c
+byFound Missing k m x = m
+byFound CrossModule k m x = x
+
+module _ (s : List ℕ) (t : Stream) (i : ℕ) {r : Found} (e : r ≡ lookUp s t i Record Missing CrossModule) where
+  pub look-by : {v : Found} → r ≡ v → {A : Type 0} (k : ℕ → ℕ → ℕ → A) (m x : A) → lookUp s t i k m x ≡ byFound v k m x
+  look-by h k m x = sym (map-look (λ (r : Found). byFound r k m x) s t i Record Missing CrossModule) ∙ ap (λ (r : Found). byFound r k m x) (sym e ∙ h)
+
+-- A part inside a stream ends where it was asked to.
+pub part-end : (s : List ℕ) (start end : ℕ) → (start ≤ end) × (end ≤ length s) → start + length (take (end - start) (drop start s)) ≡ end
+part-end s start end h =
+    let i = h .0 in
+    let j = h .1 in
+    omega (arith, length-take (end - start) (drop start s), length-drop start s)

@@ -1,14 +1,20 @@
 -- Laws of fields, over the width. Assumes nothing.
 use Prim.Native.Nat.{ℕ, zero, suc, _+_, _*_, _-_, _^_, _≤_, _<_}
-use native.Mathlib.Nat.{add-zero, zero-add, add-suc, suc-add, add-assoc, mul-add, mul-assoc, one-mul, pow-succ', pow-zero}
+use native.Mathlib.Nat.{le-refl, add-zero, zero-add, add-suc, suc-add, add-assoc, mul-add, mul-assoc, one-mul, pow-succ', pow-zero}
 use native.Mathlib.Omega.{arith}
 use mathlib.Core.Path.{_≡_, refl, ap, sym, _∙_}
 use mathlib.Core.Bool.{Bool, true, false}
 use mathlib.Core.List.{List}
 use lib.ListN.{length, getD}
-use lib.Dec.{leb}
-use borrow.Author.Tests.{le-leb, lt-leb, leb-true, ne-eqb}
-use Rattle.wire.specs.Name.{zeroFrom, nameEnd}
+use lib.Dec.{leb, ltb, eqb}
+use borrow.Author.Tests.{le-leb, lt-leb, leb-true, ltb-true, ne-eqb}
+use Rattle.wire.specs.Name.{zeroFrom, nameEnd, name, named}
+use Rattle.wire.specs.Leaf.{payload, leaf}
+use Rattle.wire.specs.declared.name.Name.{Name}
+use Rattle.wire.specs.declared.name.NameRead.{NameRead}
+use Rattle.wire.specs.declared.name.NameRead.the-variants.{Ended, Unended}
+use Rattle.wire.specs.declared.leaf.Leaf.{Leaf}
+use Rattle.wire.specs.declared.leaf.Leaf.the-variants.{Number, Unread}
 use Rattle.wire.specs.Field.{pick, number, field, field8, field16, field32, field64}
 use Rattle.wire.specs.declared.field.Field8.{Field8}
 use Rattle.wire.specs.declared.field.Field8.the-variants as f8
@@ -102,6 +108,24 @@ module _ (s : List ℕ) (at : ℕ) {r : Field64} (e : r ≡ field64 s at) where
   pub unread64 : r ≡ f64.Outside → {A : Type 0} (k : ℕ → A) (z : A) → field 8 s at k z ≡ z
   unread64 = unread f64.Value f64.Outside (λ m n e. cc) (λ n e. let z : _≡_ {A = ℕ} 0 1 = cc in omega arith) 8 s at e
 
+-- A test only picks, and a field only goes on or stops: a function of what follows is what follows with the function put on each answer.
+pub map-pick : {A B : Type 0} (f : A → B) (b : Bool) (x y : A) → f (pick b x y) ≡ pick b (f x) (f y)
+map-pick f true x y = refl
+map-pick f false x y = refl
+
+pub map-field : {A B : Type 0} (f : A → B) (w : ℕ) (s : List ℕ) (at : ℕ) (k : ℕ → A) (z : A) → f (field w s at k z) ≡ field w s at (λ n. f (k n)) (f z)
+unfolding field
+map-field f w s at k z = map-pick f (leb (at + w) (length s)) (k (number w s at)) z
+
+-- Whatever holds of each answer to a field inside, and of the answer to one outside, holds of what follows from the field.
+pub all-field : {A : Type 0} (P : A → Type 0) (w : ℕ) (s : List ℕ) (at : ℕ) (k : ℕ → A) (z : A) → ((n : ℕ) → at + w ≤ length s → P (k n)) → P z → P (field w s at k z)
+unfolding field
+all-field P w s at k z f p = go (leb (at + w) (length s)) refl
+  where
+    go : (b : Bool) → leb (at + w) (length s) ≡ b → P (pick b (k (number w s at)) z)
+    go true e = f (number w s at) (leb-true (at + w) (length s) e)
+    go false e = p
+
 -- Looking for the end of a name: it is here, or it is looked for one place on, or the slice ends.
 module _ (s : List ℕ) (at : ℕ) where
   pub zero-here : at < length s → getD s at 0 ≡ 0 → nameEnd s at ≡ at
@@ -121,3 +145,65 @@ module _ (s : List ℕ) (at : ℕ) where
   zero-none h =
       let k : length s - at ≡ 0 = omega arith in
       rw k
+
+-- What a name that was read says: it starts where it was asked for and ends inside, and whatever goes by it goes on with its length or stops.
+abbrev byName : {A : Type 0} → NameRead → (ℕ → A) → A → A
+byName (Ended n) k z = k (n .len)
+byName Unended k z = z
+
+name-by : {A : Type 0} (s : List ℕ) (at : ℕ) (k : ℕ → A) (z : A) → name s at k z ≡ byName (named s at) k z
+unfolding name
+name-by s at k z = sym (map-pick (λ (r : NameRead). byName r k z) (ltb (nameEnd s at) (length s)) (Ended (record { start = at; len = nameEnd s at - at })) Unended)
+
+pub map-name : {A B : Type 0} (f : A → B) (s : List ℕ) (at : ℕ) (k : ℕ → A) (z : A) → f (name s at k z) ≡ name s at (λ n. f (k n)) (f z)
+unfolding name
+map-name f s at k z = map-pick f (ltb (nameEnd s at) (length s)) (k (nameEnd s at - at)) z
+
+end-after : (n : ℕ) (s : List ℕ) (at : ℕ) → at ≤ zeroFrom n s at
+unfolding zeroFrom
+end-after zero s at = le-refl at
+end-after (suc n) s at = go (eqb (getD s at 0) 0) (end-after n s (at + 1))
+  where
+    go : (b : Bool) → at + 1 ≤ zeroFrom n s (at + 1) → at ≤ pick b at (zeroFrom n s (at + 1))
+    go true h = le-refl at
+    go false h = omega arith
+
+module _ (s : List ℕ) (at : ℕ) {r : NameRead} (e : r ≡ named s at) where
+  pub readName : (n : Name) → r ≡ Ended n → {A : Type 0} (k : ℕ → A) (z : A) → name s at k z ≡ k (n .len)
+  readName n h k z = name-by s at k z ∙ ap (λ (r : NameRead). byName r k z) (sym e ∙ h)
+
+  pub unreadName : r ≡ Unended → {A : Type 0} (k : ℕ → A) (z : A) → name s at k z ≡ z
+  unreadName h k z = name-by s at k z ∙ ap (λ (r : NameRead). byName r k z) (sym e ∙ h)
+
+  pub withinName : (n : Name) → r ≡ Ended n → (n .start ≡ at) × (at + n .len < length s)
+  unfolding name nameEnd
+  withinName n h = go (ltb (nameEnd s at) (length s)) refl (sym e ∙ h)
+    where
+      go : (b : Bool) → ltb (nameEnd s at) (length s) ≡ b → pick b (Ended (record { start = at; len = nameEnd s at - at })) Unended ≡ Ended n → (n .start ≡ at) × (at + n .len < length s)
+      go true l q =
+          let w : record { start = at; len = nameEnd s at - at } ≡ n = cc in
+          let u = ap (λ (m : Name). m .start) w in
+          let v = ap (λ (m : Name). m .len) w in
+          (sym u, omega (arith, v, ltb-true (nameEnd s at) (length s) l, end-after (length s - at) s at))
+      go false l q = let w : _≡_ {A = ℕ} 0 1 = cc in absurd (omega arith)
+
+-- What a leaf that was read says.
+abbrev byLeaf : {A : Type 0} → Leaf → (ℕ → ℕ → ℕ → A) → A → A
+byLeaf (Number v w n) k z = k v w n
+byLeaf Unread k z = z
+
+map-payload : {A B : Type 0} (f : A → B) (w : ℕ) (s : List ℕ) (at : ℕ) (k : ℕ → ℕ → ℕ → A) (z : A) → f (payload w s at k z) ≡ payload w s at (λ a b c. f (k a b c)) (f z)
+unfolding payload
+map-payload f zero s at k z = refl
+map-payload f (suc w) s at k z = map-field f (suc w) s at (λ v. k v (suc w) (at + suc w)) z
+
+map-leaf : {A B : Type 0} (f : A → B) (o : ℕ → ℕ) (s : List ℕ) (at : ℕ) (k : ℕ → ℕ → ℕ → A) (z : A) → f (leaf o s at k z) ≡ leaf o s at (λ a b c. f (k a b c)) (f z)
+unfolding leaf
+map-leaf f o s at k z = simp (map-field f, map-pick f, map-payload f)
+
+module _ (o : ℕ → ℕ) (s : List ℕ) (at : ℕ) {r : Leaf} (e : r ≡ leaf o s at Number Unread) where
+  pub readLeaf : (v w n : ℕ) → r ≡ Number v w n → {A : Type 0} (k : ℕ → ℕ → ℕ → A) (z : A) → leaf o s at k z ≡ k v w n
+  readLeaf v w n h k z = sym (map-leaf (λ (r : Leaf). byLeaf r k z) o s at Number Unread) ∙ ap (λ (r : Leaf). byLeaf r k z) (sym e ∙ h)
+
+  pub unreadLeaf : r ≡ Unread → {A : Type 0} (k : ℕ → ℕ → ℕ → A) (z : A) → leaf o s at k z ≡ z
+  unreadLeaf h k z = sym (map-leaf (λ (r : Leaf). byLeaf r k z) o s at Number Unread) ∙ ap (λ (r : Leaf). byLeaf r k z) (sym e ∙ h)

@@ -1,0 +1,32 @@
+-- The fields in their order: each return is the case of the definition where the reading stopped, or the whole record.
+-- Assumes nothing.
+use Rattle.codeview.proofs.Answers.{readEntries, unreadEntries}
+use Rattle.codeview.specs.IdRecord.{stringListOf}
+use borrow.Author.Needs.{needs}
+use Rattle.codeview.proofs.ids.string_list.Statement.{statement}
+use Rattle.codeview.proofs.ids.string_list.Tie as tie
+
+entries-of-requires : tie.Need-entries-of-requires
+entries-of-requires c κs = search needs
+
+enum-known-list : tie.Need-enum-known-list
+enum-known-list c = search needs
+
+enum-told : tie.Need-enum-told
+enum-told c = search needs
+
+malformed-requires : tie.Need-malformed-requires
+malformed-requires c κs = search needs
+
+returns : tie.Need-returns
+unfolding stringListOf
+returns c = rw (unreadEntries _ _ (c .before .before .before .entries-of .ensures) (c .before .enum-told .given .1), c .malformed .ensures)
+
+returns-2 : tie.Need-returns-2
+unfolding stringListOf
+returns-2 c = rw (readEntries _ _ (c .before .before .before .entries-of .ensures) _ (c .before .list .given .1))
+
+pub string-list-spec : {M : Type 1} → statement M
+string-list-spec =
+    tie.close
+    (tie.spec entries-of-requires enum-known-list enum-told malformed-requires returns returns-2)

@@ -1,0 +1,43 @@
+-- Reading an index: the record that it stands for, or the refusal (document 01, rows 5 to 8 of the table).
+use Prim.Native.Nat.{ℕ, _/_, _%_}
+use mathlib.Core.List.{List}
+use lib.Dec.{leb, ltb}
+use Rattle.wire.specs.Field.{pick}
+use Rattle.codeview.specs.Primitive.{primitives, firstOf}
+use Rattle.codeview.specs.Stream.{lookUp, part}
+use Rattle.codeview.specs.Record.{typeOf}
+use Rattle.codeview.specs.IdRecord.{idOf}
+use Rattle.codeview.specs.declared.refusal.Refusal.the-variants.{Malformed, Missing, CrossModule}
+use Rattle.codeview.specs.declared.stream.Stream.{Stream}
+use Rattle.codeview.specs.declared.record.TypeData.the-variants as type
+use Rattle.codeview.specs.declared.record.TypeRead.{TypeRead}
+use Rattle.codeview.specs.declared.record.TypeRead.the-variants.{Good, Refused}
+use Rattle.codeview.specs.declared.record.IdRead.{IdRead}
+use Rattle.codeview.specs.declared.record.IdRead.the-variants as id
+
+-- "A type index below 0x1000 is a primitive: low byte one of 43 kinds of cvinfo.h .. bits 8 to 11 the indirection, 0 to 7; any other is missing."
+unfoldable pub primitiveOf : ℕ → TypeRead
+primitiveOf index =
+    pick (leb (index / 256) 7)
+    (firstOf (index % 256) primitives
+    (λ kind. Good (type.Primitive (record { code = index % 256; indirection = index / 256 })))
+    (Refused (Missing index)))
+    (Refused (Missing index))
+
+-- What a type index stands for in a checked stream.
+unfoldable pub readType : List ℕ → Stream → ℕ → TypeRead
+readType s t index =
+    pick (ltb index 0x1000)
+    (primitiveOf index)
+    (lookUp s t index
+    (λ kind start end. typeOf (Refused (Malformed index)) start kind (part s start end))
+    (Refused (Missing index))
+    (Refused (CrossModule index)))
+
+-- What an id index stands for in a checked stream.
+unfoldable pub readId : List ℕ → Stream → ℕ → IdRead
+readId s t index =
+    lookUp s t index
+    (λ kind start end. idOf (id.Refused (Malformed index)) start kind (part s start end))
+    (id.Refused (Missing index))
+    (id.Refused (CrossModule index))

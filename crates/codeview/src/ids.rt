@@ -1,0 +1,135 @@
+// Id records: the fields of each kind, and what an id index stands for.
+ghost use mathlib.Core.Path.{_≡_};
+ghost use Prim.Native.Nat.{_+_, _<_, _^_};
+ghost use lib.ListN.{length};
+ghost use Rattle.codeview.specs.IdRecord.{functionIdOf, memberFunctionIdOf, stringListOf, stringOf, idOf};
+ghost use Rattle.codeview.specs.Read.{readId};
+ghost use Rattle.codeview.specs.declared.refusal.Refusal.the-variants.{Malformed};
+ghost use Rattle.codeview.specs.declared.record.IdRead.the-variants.{Refused};
+use crate::index::IdIndex;
+use crate::index::TypeIndex;
+use crate::parts::EntriesRead;
+use crate::record::FunctionId;
+use crate::record::IdData;
+use crate::record::IdRead;
+use crate::record::MemberFunctionId;
+use crate::record::StringId;
+use crate::refusal::Refusal;
+use crate::stream::Found;
+use crate::stream::Stream;
+use wire::field::Field32;
+use wire::name::Name;
+use wire::name::NameRead;
+
+fn malformed(index: u32) -> IdRead
+    ensures { λ r. ⌜ r ≡ Refused (Malformed index) ⌝ }
+{
+    IdRead::Refused(Refusal::Malformed(index))
+}
+
+fn function_id(b: &[u8], base: usize, index: u32) -> IdRead
+    requires { ⌜ base + length (now b) < 2 ^ 63 ⌝ }
+    ensures { λ r. ⌜ r ≡ functionIdOf (Refused (Malformed index)) base (now (b .entry)) ⌝ }
+{
+    let Field32::Value(scope) = wire::field::u32_at(b, 0) else {
+        return malformed(index);
+    };
+    let Field32::Value(function) = wire::field::u32_at(b, 4) else {
+        return malformed(index);
+    };
+    let NameRead::Ended(name) = wire::name::name_at(b, 8) else {
+        return malformed(index);
+    };
+    let name = Name {
+        start: base + 8,
+        len: name.len,
+    };
+    IdRead::Good(IdData::Function(FunctionId {
+        scope: IdIndex(scope),
+        function: TypeIndex(function),
+        name,
+    }))
+}
+
+fn member_function_id(b: &[u8], base: usize, index: u32) -> IdRead
+    requires { ⌜ base + length (now b) < 2 ^ 63 ⌝ }
+    ensures { λ r. ⌜ r ≡ memberFunctionIdOf (Refused (Malformed index)) base (now (b .entry)) ⌝ }
+{
+    let Field32::Value(parent) = wire::field::u32_at(b, 0) else {
+        return malformed(index);
+    };
+    let Field32::Value(function) = wire::field::u32_at(b, 4) else {
+        return malformed(index);
+    };
+    let NameRead::Ended(name) = wire::name::name_at(b, 8) else {
+        return malformed(index);
+    };
+    let name = Name {
+        start: base + 8,
+        len: name.len,
+    };
+    IdRead::Good(IdData::MemberFunction(MemberFunctionId {
+        parent: TypeIndex(parent),
+        function: TypeIndex(function),
+        name,
+    }))
+}
+
+fn string_list(b: &[u8], base: usize, index: u32) -> IdRead
+    requires { ⌜ base + length (now b) < 2 ^ 63 ⌝ }
+    ensures { λ r. ⌜ r ≡ stringListOf (Refused (Malformed index)) base (now (b .entry)) ⌝ }
+{
+    let EntriesRead::Whole(list) = crate::parts::entries_of(b, base) else {
+        return malformed(index);
+    };
+    IdRead::Good(IdData::StringList(list))
+}
+
+fn string_id(b: &[u8], base: usize, index: u32) -> IdRead
+    requires { ⌜ base + length (now b) < 2 ^ 63 ⌝ }
+    ensures { λ r. ⌜ r ≡ stringOf (Refused (Malformed index)) base (now (b .entry)) ⌝ }
+{
+    let Field32::Value(list) = wire::field::u32_at(b, 0) else {
+        return malformed(index);
+    };
+    let NameRead::Ended(name) = wire::name::name_at(b, 4) else {
+        return malformed(index);
+    };
+    let name = Name {
+        start: base + 4,
+        len: name.len,
+    };
+    IdRead::Good(IdData::String(StringId {
+        list: IdIndex(list),
+        name,
+    }))
+}
+
+// A record of the id stream, by its kind: its fields stand at `base`.
+fn decode_id(b: &[u8], base: usize, kind: u16, index: u32) -> IdRead
+    requires { ⌜ base + length (now b) < 2 ^ 63 ⌝ }
+    ensures { λ r. ⌜ r ≡ idOf (Refused (Malformed index)) base kind (now (b .entry)) ⌝ }
+{
+    match kind {
+        0x1601 => function_id(b, base, index),
+        0x1602 => member_function_id(b, base, index),
+        0x1604 => string_list(b, base, index),
+        0x1605 => string_id(b, base, index),
+        0x1603 => IdRead::Good(IdData::Unhandled(kind)),
+        0x1606 => IdRead::Good(IdData::Unhandled(kind)),
+        0x1607 => IdRead::Good(IdData::Unhandled(kind)),
+        _ => IdRead::Refused(Refusal::UnlistedKind(kind)),
+    }
+}
+
+// What an id index stands for in a checked stream.
+pub fn id_at(s: &[u8], stream: Stream, index: IdIndex) -> IdRead
+    ensures { λ r. ⌜ r ≡ readId (now (s .entry)) stream (index .0) ⌝ }
+{
+    let i = index.0;
+    match crate::stream::look_up(s, stream, i) {
+        Found::Record { kind, start, end } => decode_id(&s[start..end], start, kind, i),
+        Found::Missing => IdRead::Refused(Refusal::Missing(i)),
+        Found::CrossModule => IdRead::Refused(Refusal::CrossModule(i)),
+    }
+}

@@ -1,0 +1,428 @@
+// Type records: the fields of each kind, and what a type index stands for.
+ghost use mathlib.Core.Path.{_≡_};
+ghost use Prim.Native.Nat.{_+_, _/_, _%_, _<_, _^_};
+ghost use lib.ListN.{length};
+ghost use Rattle.codeview.specs.Record.{pointerMode, containing, memberClass, modifierOf, pointerOf, procedureOf, memberFunctionOf, argumentListOf, enumerateOf, arrayOf, classOf, unionOf, enumerationOf, typeOf};
+ghost use Rattle.codeview.specs.Read.{primitiveOf, readType};
+ghost use Rattle.wire.specs.declared.field.Field32.the-variants as f32;
+ghost use Rattle.codeview.specs.declared.refusal.Refusal.the-variants.{Malformed};
+ghost use Rattle.codeview.specs.declared.record.TypeRead.the-variants.{Refused};
+ghost use Rattle.codeview.specs.declared.types.ModeRead.the-variants.{Known, Unknown};
+use crate::index::TypeIndex;
+use crate::parts::EntriesRead;
+use crate::parts::Names;
+use crate::record::ArrayType;
+use crate::record::ClassKind;
+use crate::record::ClassType;
+use crate::record::EnumerateType;
+use crate::record::EnumerationType;
+use crate::record::MemberFunctionType;
+use crate::record::ModifierType;
+use crate::record::PointerMode;
+use crate::record::PointerType;
+use crate::record::PrimitiveType;
+use crate::record::ProcedureType;
+use crate::record::TypeData;
+use crate::record::TypeRead;
+use crate::record::UnionType;
+use crate::refusal::Refusal;
+use crate::stream::Found;
+use crate::stream::Stream;
+use wire::field::Field16;
+use wire::field::Field32;
+use wire::leaf::Leaf;
+use wire::name::Name;
+use wire::name::NameRead;
+
+enum ModeRead {
+    Known(PointerMode),
+    Unknown,
+}
+
+fn malformed(index: u32) -> TypeRead
+    ensures { λ r. ⌜ r ≡ Refused (Malformed index) ⌝ }
+{
+    TypeRead::Refused(Refusal::Malformed(index))
+}
+
+fn pointer_mode(mode: u32) -> ModeRead
+    ensures { λ r. ⌜ r ≡ pointerMode mode Known Unknown ⌝ }
+{
+    match mode {
+        0 => ModeRead::Known(PointerMode::Pointer),
+        1 => ModeRead::Known(PointerMode::LValueReference),
+        2 => ModeRead::Known(PointerMode::Member),
+        3 => ModeRead::Known(PointerMode::MemberFunction),
+        4 => ModeRead::Known(PointerMode::RValueReference),
+        _ => ModeRead::Unknown,
+    }
+}
+
+fn containing_class(b: &[u8]) -> Field32
+    ensures { λ r. ⌜ r ≡ containing (now (b .entry)) f32.Value f32.Outside ⌝ }
+{
+    let Field32::Value(class) = wire::field::u32_at(b, 8) else {
+        return Field32::Outside;
+    };
+    let Field16::Value(_) = wire::field::u16_at(b, 12) else {
+        return Field32::Outside;
+    };
+    Field32::Value(class)
+}
+
+fn member_class(b: &[u8], mode: PointerMode) -> Field32
+    ensures { λ r. ⌜ r ≡ memberClass mode (now (b .entry)) f32.Value f32.Outside ⌝ }
+{
+    match mode {
+        PointerMode::Pointer => Field32::Value(0),
+        PointerMode::LValueReference => Field32::Value(0),
+        PointerMode::Member => containing_class(b),
+        PointerMode::MemberFunction => containing_class(b),
+        PointerMode::RValueReference => Field32::Value(0),
+    }
+}
+
+fn modifier(b: &[u8], base: usize, index: u32) -> TypeRead
+    ensures { λ r. ⌜ r ≡ modifierOf (Refused (Malformed index)) base (now (b .entry)) ⌝ }
+{
+    let Field32::Value(underlying) = wire::field::u32_at(b, 0) else {
+        return malformed(index);
+    };
+    let Field16::Value(attributes) = wire::field::u16_at(b, 4) else {
+        return malformed(index);
+    };
+    let bits = attributes as u32;
+    let constant = crate::parts::has_bit(bits, 1);
+    let volatile = crate::parts::has_bit(bits, 2);
+    let unaligned = crate::parts::has_bit(bits, 4);
+    TypeRead::Good(TypeData::Modifier(ModifierType {
+        underlying: TypeIndex(underlying),
+        constant,
+        volatile,
+        unaligned,
+    }))
+}
+
+fn pointer(b: &[u8], base: usize, index: u32) -> TypeRead
+    ensures { λ r. ⌜ r ≡ pointerOf (Refused (Malformed index)) base (now (b .entry)) ⌝ }
+{
+    let Field32::Value(underlying) = wire::field::u32_at(b, 0) else {
+        return malformed(index);
+    };
+    let Field32::Value(attributes) = wire::field::u32_at(b, 4) else {
+        return malformed(index);
+    };
+    let ModeRead::Known(mode) = pointer_mode(attributes / 32 % 8) else {
+        return malformed(index);
+    };
+    let Field32::Value(class) = member_class(b, mode) else {
+        return malformed(index);
+    };
+    let constant = crate::parts::has_bit(attributes, 0x400);
+    let volatile = crate::parts::has_bit(attributes, 0x200);
+    TypeRead::Good(TypeData::Pointer(PointerType {
+        underlying: TypeIndex(underlying),
+        mode,
+        constant,
+        volatile,
+        size: attributes / 8192 % 64,
+        class: TypeIndex(class),
+    }))
+}
+
+fn procedure(b: &[u8], base: usize, index: u32) -> TypeRead
+    ensures { λ r. ⌜ r ≡ procedureOf (Refused (Malformed index)) base (now (b .entry)) ⌝ }
+{
+    let Field32::Value(result) = wire::field::u32_at(b, 0) else {
+        return malformed(index);
+    };
+    let Field16::Value(attributes) = wire::field::u16_at(b, 4) else {
+        return malformed(index);
+    };
+    let Field16::Value(parameters) = wire::field::u16_at(b, 6) else {
+        return malformed(index);
+    };
+    let Field32::Value(arguments) = wire::field::u32_at(b, 8) else {
+        return malformed(index);
+    };
+    let constructor = crate::parts::has_bit(attributes as u32, 0x200);
+    TypeRead::Good(TypeData::Procedure(ProcedureType {
+        result: TypeIndex(result),
+        constructor,
+        parameters,
+        arguments: TypeIndex(arguments),
+    }))
+}
+
+fn member_function(b: &[u8], base: usize, index: u32) -> TypeRead
+    ensures { λ r. ⌜ r ≡ memberFunctionOf (Refused (Malformed index)) base (now (b .entry)) ⌝ }
+{
+    let Field32::Value(result) = wire::field::u32_at(b, 0) else {
+        return malformed(index);
+    };
+    let Field32::Value(class) = wire::field::u32_at(b, 4) else {
+        return malformed(index);
+    };
+    let Field32::Value(this) = wire::field::u32_at(b, 8) else {
+        return malformed(index);
+    };
+    let Field16::Value(attributes) = wire::field::u16_at(b, 12) else {
+        return malformed(index);
+    };
+    let Field16::Value(parameters) = wire::field::u16_at(b, 14) else {
+        return malformed(index);
+    };
+    let Field32::Value(arguments) = wire::field::u32_at(b, 16) else {
+        return malformed(index);
+    };
+    let Field32::Value(adjustment) = wire::field::u32_at(b, 20) else {
+        return malformed(index);
+    };
+    let constructor = crate::parts::has_bit(attributes as u32, 0x200);
+    TypeRead::Good(TypeData::MemberFunction(MemberFunctionType {
+        result: TypeIndex(result),
+        class: TypeIndex(class),
+        this: TypeIndex(this),
+        constructor,
+        parameters,
+        arguments: TypeIndex(arguments),
+        adjustment,
+    }))
+}
+
+fn argument_list(b: &[u8], base: usize, index: u32) -> TypeRead
+    requires { ⌜ base + length (now b) < 2 ^ 63 ⌝ }
+    ensures { λ r. ⌜ r ≡ argumentListOf (Refused (Malformed index)) base (now (b .entry)) ⌝ }
+{
+    let EntriesRead::Whole(list) = crate::parts::entries_of(b, base) else {
+        return malformed(index);
+    };
+    TypeRead::Good(TypeData::ArgumentList(list))
+}
+
+fn enumerate(b: &[u8], base: usize, index: u32) -> TypeRead
+    requires { ⌜ base + length (now b) < 2 ^ 63 ⌝ }
+    ensures { λ r. ⌜ r ≡ enumerateOf (Refused (Malformed index)) base (now (b .entry)) ⌝ }
+{
+    let Field16::Value(attributes) = wire::field::u16_at(b, 0) else {
+        return malformed(index);
+    };
+    let Leaf::Number { value, width, next } = wire::leaf::leaf_at(b, 2, true) else {
+        return malformed(index);
+    };
+    let NameRead::Ended(name) = wire::name::name_at(b, next) else {
+        return malformed(index);
+    };
+    let name = Name {
+        start: base + next,
+        len: name.len,
+    };
+    TypeRead::Good(TypeData::Enumerate(EnumerateType {
+        attributes,
+        value,
+        width,
+        name,
+    }))
+}
+
+fn array(b: &[u8], base: usize, index: u32) -> TypeRead
+    requires { ⌜ base + length (now b) < 2 ^ 63 ⌝ }
+    ensures { λ r. ⌜ r ≡ arrayOf (Refused (Malformed index)) base (now (b .entry)) ⌝ }
+{
+    let Field32::Value(element) = wire::field::u32_at(b, 0) else {
+        return malformed(index);
+    };
+    let Field32::Value(indexing) = wire::field::u32_at(b, 4) else {
+        return malformed(index);
+    };
+    let Leaf::Number {
+        value,
+        width: _,
+        next,
+    } = wire::leaf::leaf_at(b, 8, false)
+    else {
+        return malformed(index);
+    };
+    let NameRead::Ended(name) = wire::name::name_at(b, next) else {
+        return malformed(index);
+    };
+    if 4_294_967_295 < value {
+        return malformed(index);
+    }
+    let name = Name {
+        start: base + next,
+        len: name.len,
+    };
+    TypeRead::Good(TypeData::Array(ArrayType {
+        element: TypeIndex(element),
+        indexing: TypeIndex(indexing),
+        size: value,
+        name,
+    }))
+}
+
+fn class(b: &[u8], base: usize, index: u32, kind: ClassKind) -> TypeRead
+    requires { ⌜ base + length (now b) < 2 ^ 63 ⌝ }
+    ensures { λ r. ⌜ r ≡ classOf (Refused (Malformed index)) base kind (now (b .entry)) ⌝ }
+{
+    let Field16::Value(count) = wire::field::u16_at(b, 0) else {
+        return malformed(index);
+    };
+    let Field16::Value(properties) = wire::field::u16_at(b, 2) else {
+        return malformed(index);
+    };
+    let forward = crate::parts::has_bit(properties as u32, 0x80);
+    let Field32::Value(fields) = wire::field::u32_at(b, 4) else {
+        return malformed(index);
+    };
+    let Field32::Value(derived) = wire::field::u32_at(b, 8) else {
+        return malformed(index);
+    };
+    let Field32::Value(shape) = wire::field::u32_at(b, 12) else {
+        return malformed(index);
+    };
+    let Leaf::Number {
+        value,
+        width: _,
+        next,
+    } = wire::leaf::leaf_at(b, 16, false)
+    else {
+        return malformed(index);
+    };
+    let Names::Both(name, unique) = crate::parts::names_at(b, base, next, properties) else {
+        return malformed(index);
+    };
+    TypeRead::Good(TypeData::Class(ClassType {
+        kind,
+        count,
+        forward,
+        fields: TypeIndex(fields),
+        derived: TypeIndex(derived),
+        shape: TypeIndex(shape),
+        size: value,
+        name,
+        unique,
+    }))
+}
+
+fn union_type(b: &[u8], base: usize, index: u32) -> TypeRead
+    requires { ⌜ base + length (now b) < 2 ^ 63 ⌝ }
+    ensures { λ r. ⌜ r ≡ unionOf (Refused (Malformed index)) base (now (b .entry)) ⌝ }
+{
+    let Field16::Value(count) = wire::field::u16_at(b, 0) else {
+        return malformed(index);
+    };
+    let Field16::Value(properties) = wire::field::u16_at(b, 2) else {
+        return malformed(index);
+    };
+    let forward = crate::parts::has_bit(properties as u32, 0x80);
+    let Field32::Value(fields) = wire::field::u32_at(b, 4) else {
+        return malformed(index);
+    };
+    let Leaf::Number {
+        value,
+        width: _,
+        next,
+    } = wire::leaf::leaf_at(b, 8, false)
+    else {
+        return malformed(index);
+    };
+    let Names::Both(name, unique) = crate::parts::names_at(b, base, next, properties) else {
+        return malformed(index);
+    };
+    TypeRead::Good(TypeData::Union(UnionType {
+        count,
+        forward,
+        fields: TypeIndex(fields),
+        size: value,
+        name,
+        unique,
+    }))
+}
+
+fn enumeration(b: &[u8], base: usize, index: u32) -> TypeRead
+    requires { ⌜ base + length (now b) < 2 ^ 63 ⌝ }
+    ensures { λ r. ⌜ r ≡ enumerationOf (Refused (Malformed index)) base (now (b .entry)) ⌝ }
+{
+    let Field16::Value(count) = wire::field::u16_at(b, 0) else {
+        return malformed(index);
+    };
+    let Field16::Value(properties) = wire::field::u16_at(b, 2) else {
+        return malformed(index);
+    };
+    let forward = crate::parts::has_bit(properties as u32, 0x80);
+    let Field32::Value(underlying) = wire::field::u32_at(b, 4) else {
+        return malformed(index);
+    };
+    let Field32::Value(fields) = wire::field::u32_at(b, 8) else {
+        return malformed(index);
+    };
+    let Names::Both(name, unique) = crate::parts::names_at(b, base, 12, properties) else {
+        return malformed(index);
+    };
+    TypeRead::Good(TypeData::Enumeration(EnumerationType {
+        count,
+        forward,
+        underlying: TypeIndex(underlying),
+        fields: TypeIndex(fields),
+        name,
+        unique,
+    }))
+}
+
+// A record of the type stream, by its kind: its fields stand at `base`.
+fn decode_type(b: &[u8], base: usize, kind: u16, index: u32) -> TypeRead
+    requires { ⌜ base + length (now b) < 2 ^ 63 ⌝ }
+    ensures { λ r. ⌜ r ≡ typeOf (Refused (Malformed index)) base kind (now (b .entry)) ⌝ }
+{
+    match kind {
+        0x1001 => modifier(b, base, index),
+        0x1002 => pointer(b, base, index),
+        0x1008 => procedure(b, base, index),
+        0x1009 => member_function(b, base, index),
+        0x1201 => argument_list(b, base, index),
+        0x1502 => enumerate(b, base, index),
+        0x1503 => array(b, base, index),
+        0x1504 => class(b, base, index, ClassKind::Class),
+        0x1505 => class(b, base, index, ClassKind::Struct),
+        0x1519 => class(b, base, index, ClassKind::Interface),
+        0x1506 => union_type(b, base, index),
+        0x1507 => enumeration(b, base, index),
+        0x1203 => TypeRead::Good(TypeData::Unhandled(kind)),
+        0x1205 => TypeRead::Good(TypeData::Unhandled(kind)),
+        0x1206 => TypeRead::Good(TypeData::Unhandled(kind)),
+        _ => TypeRead::Refused(Refusal::UnlistedKind(kind)),
+    }
+}
+
+// A type index below 0x1000.
+fn primitive_type(index: u32) -> TypeRead
+    requires { ⌜ index < 0x1000 ⌝ }
+    ensures { λ r. ⌜ r ≡ primitiveOf index ⌝ }
+{
+    let indirection = index / 256;
+    let code = (index % 256) as u8;
+    if 7 < indirection {
+        return TypeRead::Refused(Refusal::Missing(index));
+    }
+    let search = crate::primitive::find_primitive(code);
+    if search.listed {
+        return TypeRead::Good(TypeData::Primitive(PrimitiveType { code, indirection }));
+    }
+    TypeRead::Refused(Refusal::Missing(index))
+}
+
+// What a type index stands for in a checked stream.
+pub fn type_at(s: &[u8], stream: Stream, index: TypeIndex) -> TypeRead
+    ensures { λ r. ⌜ r ≡ readType (now (s .entry)) stream (index .0) ⌝ }
+{
+    let i = index.0;
+    if i < 0x1000 {
+        return primitive_type(i);
+    }
+    match crate::stream::look_up(s, stream, i) {
+        Found::Record { kind, start, end } => decode_type(&s[start..end], start, kind, i),
+        Found::Missing => TypeRead::Refused(Refusal::Missing(i)),
+        Found::CrossModule => TypeRead::Refused(Refusal::CrossModule(i)),
+    }
+}
