@@ -5,7 +5,7 @@ use lib.Dec.{eqb}
 use Rattle.wire.specs.Field.{pick, field}
 use Rattle.wire.specs.Name.{name}
 use Rattle.codeview.specs.Record.{typeIndex, idIndex, place, entries}
-use Rattle.codeview.specs.declared.refusal.Refusal.the-variants.{UnlistedKind}
+use Rattle.streams.specs.declared.refusal.Refusal.the-variants.{UnlistedKind}
 use Rattle.codeview.specs.declared.record.IdData.the-variants as id
 use Rattle.codeview.specs.declared.record.IdRead.{IdRead}
 use Rattle.codeview.specs.declared.record.IdRead.the-variants.{Good, Refused}

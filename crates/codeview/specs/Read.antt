@@ -3,12 +3,12 @@ use Prim.Native.Nat.{ℕ, _/_, _%_}
 use mathlib.Core.List.{List}
 use lib.Dec.{leb, ltb}
 use Rattle.wire.specs.Field.{pick}
-use Rattle.codeview.specs.Primitive.{primitives, firstOf}
-use Rattle.codeview.specs.Stream.{lookUp, part}
+use Rattle.primitives.specs.Primitive.{primitives, firstOf}
+use Rattle.streams.specs.Stream.{lookUp, part}
 use Rattle.codeview.specs.Record.{typeOf}
 use Rattle.codeview.specs.IdRecord.{idOf}
-use Rattle.codeview.specs.declared.refusal.Refusal.the-variants.{Malformed, Missing, CrossModule}
-use Rattle.codeview.specs.declared.stream.Stream.{Stream}
+use Rattle.streams.specs.declared.refusal.Refusal.the-variants.{Malformed, Missing, CrossModule}
+use Rattle.streams.specs.declared.stream.Stream.{Stream}
 use Rattle.codeview.specs.declared.record.TypeData.the-variants as type
 use Rattle.codeview.specs.declared.record.TypeRead.{TypeRead}
 use Rattle.codeview.specs.declared.record.TypeRead.the-variants.{Good, Refused}

@@ -11,7 +11,7 @@ use Rattle.wire.specs.Name.{name}
 use Rattle.wire.specs.declared.name.Name.{Name}
 use Rattle.codeview.specs.declared.index.TypeIndex.{TypeIndex}
 use Rattle.codeview.specs.declared.index.IdIndex.{IdIndex}
-use Rattle.codeview.specs.declared.refusal.Refusal.the-variants.{Malformed, UnlistedKind}
+use Rattle.streams.specs.declared.refusal.Refusal.the-variants.{Malformed, UnlistedKind}
 use Rattle.codeview.specs.declared.record.Entries.{Entries}
 use Rattle.codeview.specs.declared.record.PointerMode.{PointerMode}
 use Rattle.codeview.specs.declared.record.PointerMode.the-variants as mode

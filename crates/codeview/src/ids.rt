@@ -4,7 +4,7 @@ ghost use Prim.Native.Nat.{_+_, _<_, _^_};
 ghost use lib.ListN.{length};
 ghost use Rattle.codeview.specs.IdRecord.{functionIdOf, memberFunctionIdOf, stringListOf, stringOf, idOf};
 ghost use Rattle.codeview.specs.Read.{readId};
-ghost use Rattle.codeview.specs.declared.refusal.Refusal.the-variants.{Malformed};
+ghost use Rattle.streams.specs.declared.refusal.Refusal.the-variants.{Malformed};
 ghost use Rattle.codeview.specs.declared.record.IdRead.the-variants.{Refused};
 use crate::index::IdIndex;
 use crate::index::TypeIndex;
@@ -14,9 +14,9 @@ use crate::record::IdData;
 use crate::record::IdRead;
 use crate::record::MemberFunctionId;
 use crate::record::StringId;
-use crate::refusal::Refusal;
-use crate::stream::Found;
-use crate::stream::Stream;
+use streams::refusal::Refusal;
+use streams::stream::Found;
+use streams::stream::Stream;
 use wire::field::Field32;
 use wire::name::Name;
 use wire::name::NameRead;
@@ -127,7 +127,7 @@ pub fn id_at(s: &[u8], stream: Stream, index: IdIndex) -> IdRead
     ensures { λ r. ⌜ r ≡ readId (now (s .entry)) stream (index .0) ⌝ }
 {
     let i = index.0;
-    match crate::stream::look_up(s, stream, i) {
+    match streams::stream::look_up(s, stream, i) {
         Found::Record { kind, start, end } => decode_id(&s[start..end], start, kind, i),
         Found::Missing => IdRead::Refused(Refusal::Missing(i)),
         Found::CrossModule => IdRead::Refused(Refusal::CrossModule(i)),

@@ -1,7 +1,7 @@
 // The records of the two streams, decoded. Names and lists stand as places of the stream.
 use crate::index::IdIndex;
 use crate::index::TypeIndex;
-use crate::refusal::Refusal;
+use streams::refusal::Refusal;
 use wire::name::Name;
 
 // A run of u32: where it starts and how many there are.

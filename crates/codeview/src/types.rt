@@ -5,7 +5,7 @@ ghost use lib.ListN.{length};
 ghost use Rattle.codeview.specs.Record.{pointerMode, containing, memberClass, modifierOf, pointerOf, procedureOf, memberFunctionOf, argumentListOf, enumerateOf, arrayOf, classOf, unionOf, enumerationOf, typeOf};
 ghost use Rattle.codeview.specs.Read.{primitiveOf, readType};
 ghost use Rattle.wire.specs.declared.field.Field32.the-variants as f32;
-ghost use Rattle.codeview.specs.declared.refusal.Refusal.the-variants.{Malformed};
+ghost use Rattle.streams.specs.declared.refusal.Refusal.the-variants.{Malformed};
 ghost use Rattle.codeview.specs.declared.record.TypeRead.the-variants.{Refused};
 ghost use Rattle.codeview.specs.declared.types.ModeRead.the-variants.{Known, Unknown};
 use crate::index::TypeIndex;
@@ -25,9 +25,9 @@ use crate::record::ProcedureType;
 use crate::record::TypeData;
 use crate::record::TypeRead;
 use crate::record::UnionType;
-use crate::refusal::Refusal;
-use crate::stream::Found;
-use crate::stream::Stream;
+use streams::refusal::Refusal;
+use streams::stream::Found;
+use streams::stream::Stream;
 use wire::field::Field16;
 use wire::field::Field32;
 use wire::leaf::Leaf;
@@ -405,7 +405,7 @@ fn primitive_type(index: u32) -> TypeRead
     if 7 < indirection {
         return TypeRead::Refused(Refusal::Missing(index));
     }
-    let search = crate::primitive::find_primitive(code);
+    let search = primitives::find_primitive(code);
     if search.listed {
         return TypeRead::Good(TypeData::Primitive(PrimitiveType { code, indirection }));
     }
@@ -420,7 +420,7 @@ pub fn type_at(s: &[u8], stream: Stream, index: TypeIndex) -> TypeRead
     if i < 0x1000 {
         return primitive_type(i);
     }
-    match crate::stream::look_up(s, stream, i) {
+    match streams::stream::look_up(s, stream, i) {
         Found::Record { kind, start, end } => decode_type(&s[start..end], start, kind, i),
         Found::Missing => TypeRead::Refused(Refusal::Missing(i)),
         Found::CrossModule => TypeRead::Refused(Refusal::CrossModule(i)),

@@ -23,13 +23,13 @@ use codeview::record::TypeData;
 use codeview::record::TypeRead;
 use codeview::record::UnionType;
 use codeview::record::UniqueName;
-use codeview::refusal::Refusal;
-use codeview::refusal::StreamKind;
-use codeview::stream::Found;
-use codeview::stream::Stream;
-use codeview::stream::StreamCheck;
 use libc::STDERR_FILENO;
 use libc::STDOUT_FILENO;
+use streams::refusal::Refusal;
+use streams::refusal::StreamKind;
+use streams::stream::Found;
+use streams::stream::Stream;
+use streams::stream::StreamCheck;
 use wire::field::Field32;
 use wire::name::Name;
 
@@ -282,7 +282,7 @@ fn line(s: &[u8], stream: Stream, ids: bool, index: u32) {
         kind,
         start: _,
         end: _,
-    } = codeview::stream::look_up(s, stream, index) {
+    } = streams::stream::look_up(s, stream, index) {
         hex(b" ", kind as u32);
     }
     if ids {
@@ -307,7 +307,7 @@ fn table(s: &[u8], ids: bool) {
     } else {
         StreamKind::Types
     };
-    match codeview::stream::check_stream(s, which) {
+    match streams::stream::check_stream(s, which) {
         StreamCheck::Good(stream) => lines(s, stream, ids, stream.first, stream.end),
         StreamCheck::Refused(f) => {
             decimal(b"refused ", f.number() as u64);

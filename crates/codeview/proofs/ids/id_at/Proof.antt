@@ -1,9 +1,9 @@
 -- What the look-up found: each return is a case of the definition.
 -- Assumes nothing.
 use denote.Ref.{now}
-use Rattle.codeview.specs.Stream.{part}
+use Rattle.streams.specs.Stream.{part}
 use Rattle.codeview.specs.Read.{readId}
-use Rattle.codeview.proofs.Walk.{look-by, look-within, part-end}
+use Rattle.streams.proofs.Walk.{look-by, look-within, part-end}
 use native.Mathlib.Omega.{arith}
 use borrow.Author.Needs.{needs}
 use Rattle.codeview.proofs.ids.id_at.Statement.{statement}

@@ -2,7 +2,7 @@
 -- Assumes nothing.
 use borrow.Author.Tests.{le-leb, lt-leb}
 use Rattle.codeview.specs.Read.{primitiveOf}
-use Rattle.codeview.proofs.Table.{first-by}
+use Rattle.primitives.proofs.Table.{first-by}
 use borrow.Author.Needs.{needs}
 use Rattle.codeview.proofs.types.primitive_type.Statement.{statement}
 use Rattle.codeview.proofs.types.primitive_type.Tie as tie

@@ -2,9 +2,9 @@
 -- Assumes nothing.
 use borrow.Author.Tests.{lt-ltb, le-ltb}
 use denote.Ref.{now}
-use Rattle.codeview.specs.Stream.{part}
+use Rattle.streams.specs.Stream.{part}
 use Rattle.codeview.specs.Read.{readType}
-use Rattle.codeview.proofs.Walk.{look-by, look-within, part-end}
+use Rattle.streams.proofs.Walk.{look-by, look-within, part-end}
 use native.Mathlib.Omega.{arith}
 use borrow.Author.Needs.{needs}
 use Rattle.codeview.proofs.types.type_at.Statement.{statement}

@@ -1,0 +1,226 @@
+-- Laws of the walk over records: what its answer says, and where it stays. Assumes nothing.
+use Prim.Native.Nat.{ℕ, zero, suc, _+_, _-_, _≤_, _<_, min}
+use native.Mathlib.Nat.{not-suc-le-zero, zero-min, suc-min-suc}
+use native.Mathlib.Omega.{arith}
+use mathlib.Core.Path.{_≡_, refl, sym, _∙_, ap, fun-ext}
+use mathlib.Core.Bool.{Bool, true, false}
+use mathlib.Core.List.{List, [], _∷_}
+use lib.ListN.{length, take, drop, length-take, length-drop}
+use lib.Seq.{take-nil}
+use lib.Dec.{leb, ltb, eqb}
+use borrow.Author.Tests.{leb-true}
+use Rattle.wire.specs.Field.{pick, number, field}
+use Rattle.wire.proofs.Laws.{map-pick, map-field, all-field}
+use Rattle.streams.specs.Stream.{indexes, header, behind, passed, recordAt, lookUp}
+use Rattle.streams.specs.declared.stream.Stream.{Stream}
+use Rattle.streams.specs.declared.stream.Head.{Head}
+use Rattle.streams.specs.declared.stream.Head.the-variants as head
+use Rattle.streams.specs.declared.stream.Place.{Place}
+use Rattle.streams.specs.declared.stream.Place.the-variants.{At, Beyond}
+use Rattle.streams.specs.declared.stream.Found.{Found}
+use Rattle.streams.specs.declared.stream.Found.the-variants.{Record, Missing, CrossModule}
+
+-- Whatever holds of every answer that a record inside can give, and of the answer beyond, holds of what follows from a place.
+module _ {A : Type 0} (P : A → Type 0) (s : List ℕ) where
+  behind-all : (at : ℕ) (k : ℕ → A) (z : A) → ((next : ℕ) → at + 4 ≤ next → next ≤ length s → P (k next)) → P z → P (behind s at k z)
+  unfolding behind field
+  behind-all at k z f p = go (leb (at + 2) (length s)) (leb 2 (number 2 s at)) (leb (at + 2 + number 2 s at) (length s)) refl refl
+    where
+      go : (a b c : Bool) → leb 2 (number 2 s at) ≡ b → leb (at + 2 + number 2 s at) (length s) ≡ c → P (pick a (pick b (pick c (k (at + 2 + number 2 s at)) z) z) z)
+      go true true true e h =
+          let i : 2 ≤ number 2 s at = leb-true 2 (number 2 s at) e in
+          f (at + 2 + number 2 s at) (omega arith) (leb-true (at + 2 + number 2 s at) (length s) h)
+      go true true false e h = p
+      go true false c e h = p
+      go false b c e h = p
+
+  passed-all : (n at : ℕ) (k : ℕ → A) (z : A) → ((next : ℕ) → P (k next)) → P z → P (passed n s at k z)
+  unfolding passed
+  passed-all zero at k z f p = f at
+  passed-all (suc n) at k z f p = behind-all at (λ at. passed n s at k z) z (λ next h i. passed-all n next k z f p) p
+
+  recordAt-all : (at : ℕ) (k : ℕ → ℕ → ℕ → A) (z : A) → ((kind start end : ℕ) → start ≤ end → end ≤ length s → P (k kind start end)) → P z → P (recordAt s at k z)
+  unfolding recordAt field
+  recordAt-all at k z f p =
+      behind-all at (λ next. field 2 s (at + 2) (λ kind. k kind (at + 4) next) z) z
+      (λ next h i. go next (leb (at + 2 + 2) (length s)) h i) p
+    where
+      go : (next : ℕ) (b : Bool) → at + 4 ≤ next → next ≤ length s → P (pick b (k (number 2 s (at + 2)) (at + 4) next) z)
+      go next true h i = f (number 2 s (at + 2)) (at + 4) next h i
+      go next false h i = p
+
+-- A function of what follows is what follows with the function put on each answer.
+module _ {A B : Type 0} (f : A → B) (s : List ℕ) where
+  map-behind : (at : ℕ) (k : ℕ → A) (z : A) → f (behind s at k z) ≡ behind s at (λ n. f (k n)) (f z)
+  unfolding behind
+  map-behind at k z = simp (map-field f, map-pick f)
+
+  map-passed : (n at : ℕ) (k : ℕ → A) (z : A) → f (passed n s at k z) ≡ passed n s at (λ n. f (k n)) (f z)
+  unfolding passed
+  map-passed zero at k z = refl
+  map-passed (suc n) at k z =
+      map-behind at (λ at. passed n s at k z) z
+      ∙ ap (λ (g : ℕ → B). behind s at g (f z)) (fun-ext (λ at. map-passed n at k z))
+
+  map-record : (at : ℕ) (k : ℕ → ℕ → ℕ → A) (z : A) → f (recordAt s at k z) ≡ recordAt s at (λ a b c. f (k a b c)) (f z)
+  unfolding recordAt
+  map-record at k z =
+      map-behind at (λ next. field 2 s (at + 2) (λ kind. k kind (at + 4) next) z) z
+      ∙ ap (λ (g : ℕ → B). behind s at g (f z)) (fun-ext (λ next. map-field f 2 s (at + 2) (λ kind. k kind (at + 4) next) z))
+
+  map-header : (k : ℕ → ℕ → ℕ → A) (z : A) → f (header s k z) ≡ header s (λ a b c. f (k a b c)) (f z)
+  unfolding header indexes
+  map-header k z = simp (map-pick f, map-field f)
+
+map-look : {A B : Type 0} (f : A → B) (s : List ℕ) (t : Stream) (i : ℕ) (k : ℕ → ℕ → ℕ → A) (m x : A) → f (lookUp s t i k m x) ≡ lookUp s t i (λ a b c. f (k a b c)) (f m) (f x)
+unfolding lookUp
+map-look {A} {B} f s t i k m x =
+    map-pick f (leb 0x8000_0000 i) x _
+    ∙ ap (λ (y : B). pick (leb 0x8000_0000 i) (f x) y)
+    (map-pick f (ltb i (t .first)) m _
+    ∙ ap (λ (y : B). pick (ltb i (t .first)) (f m) y)
+    (map-pick f (leb (t .end) i) m _
+    ∙ ap (λ (y : B). pick (leb (t .end) i) (f m) y)
+    (map-passed f r (i - t .first) 56 (λ at. recordAt r at k m) m
+    ∙ ap (λ (g : ℕ → B). passed (i - t .first) r 56 g (f m)) (fun-ext (λ at. map-record f r at k m)))))
+  where
+    r : List ℕ
+    r = take (t .stop) s
+
+-- What follows, said of the answer.
+abbrev by : {A : Type 0} → Place → (ℕ → A) → A → A
+by (At at) k z = k at
+by Beyond k z = z
+
+-- What an answered place says: whatever goes by it goes on from there, or stops.
+module _ (s : List ℕ) (at : ℕ) {r : Place} (e : r ≡ behind s at At Beyond) where
+  pub behind-at : (x : ℕ) → r ≡ At x → {A : Type 0} (k : ℕ → A) (z : A) → behind s at k z ≡ k x
+  behind-at x h k z = sym (map-behind (λ (p : Place). by p k z) s at At Beyond) ∙ ap (λ (p : Place). by p k z) (sym e ∙ h)
+
+  pub behind-beyond : r ≡ Beyond → {A : Type 0} (k : ℕ → A) (z : A) → behind s at k z ≡ z
+  behind-beyond h k z = sym (map-behind (λ (p : Place). by p k z) s at At Beyond) ∙ ap (λ (p : Place). by p k z) (sym e ∙ h)
+
+  pub behind-within : (x : ℕ) → r ≡ At x → (at + 4 ≤ x) × (x ≤ length s)
+  behind-within x h =
+      behind-all (λ (p : Place). p ≡ At x → (at + 4 ≤ x) × (x ≤ length s)) s at At Beyond
+      (λ next i j q. let w : next ≡ x = cc in (omega arith, omega arith))
+      (λ q. let w : _≡_ {A = ℕ} 0 1 = cc in absurd (omega arith)) (sym e ∙ h)
+
+module _ (n : ℕ) (s : List ℕ) (at : ℕ) {r : Place} (e : r ≡ passed n s at At Beyond) where
+  pub passed-at : (x : ℕ) → r ≡ At x → {A : Type 0} (k : ℕ → A) (z : A) → passed n s at k z ≡ k x
+  passed-at x h k z = sym (map-passed (λ (p : Place). by p k z) s n at At Beyond) ∙ ap (λ (p : Place). by p k z) (sym e ∙ h)
+
+  pub passed-beyond : r ≡ Beyond → {A : Type 0} (k : ℕ → A) (z : A) → passed n s at k z ≡ z
+  passed-beyond h k z = sym (map-passed (λ (p : Place). by p k z) s n at At Beyond) ∙ ap (λ (p : Place). by p k z) (sym e ∙ h)
+
+-- A walk of no record, and of one more.
+pub passed-none : {A : Type 0} (n : ℕ) (s : List ℕ) (at : ℕ) (k : ℕ → A) (z : A) → n ≤ 0 → k at ≡ passed n s at k z
+unfolding passed
+passed-none zero s at k z h = refl
+passed-none (suc n) s at k z h = absurd (not-suc-le-zero h)
+
+more : {A : Type 0} (n : ℕ) (s : List ℕ) (at : ℕ) (k : ℕ → A) (z : A) → passed (suc n) s at k z ≡ behind s at (λ at. passed n s at k z) z
+unfolding passed
+more n s at k z = refl
+
+pub passed-more : {A : Type 0} (n : ℕ) (s : List ℕ) (at : ℕ) (k : ℕ → A) (z : A) → 0 < n → passed n s at k z ≡ behind s at (λ at. passed (n - 1) s at k z) z
+passed-more zero s at k z h = absurd (not-suc-le-zero h)
+passed-more (suc n) s at k z h =
+    let e : suc n - 1 ≡ n = omega arith in
+    simp e (more n s at k z)
+
+-- Whatever holds of every answer that a record inside the stream can give, and of the two others, holds of what follows from an index.
+lookUp-all : {A : Type 0} (P : A → Type 0) (s : List ℕ) (t : Stream) (i : ℕ) (k : ℕ → ℕ → ℕ → A) (m x : A) → ((kind start end : ℕ) → start ≤ end → end ≤ length s → P (k kind start end)) → P m → P x → P (lookUp s t i k m x)
+unfolding lookUp
+lookUp-all P s t i k m x f p q = go (leb 0x8000_0000 i) (ltb i (t .first)) (leb (t .end) i)
+  where
+    walked : P (passed (i - t .first) (take (t .stop) s) 56 (λ at. recordAt (take (t .stop) s) at k m) m)
+    walked =
+        passed-all P (take (t .stop) s) (i - t .first) 56 (λ at. recordAt (take (t .stop) s) at k m) m
+        (λ at. recordAt-all P (take (t .stop) s) at k m (λ kind start end h j. f kind start end h (omega (arith, length-take (t .stop) s))) p) p
+
+    go : (a b c : Bool) → P (pick a x (pick b m (pick c m (passed (i - t .first) (take (t .stop) s) 56 (λ at. recordAt (take (t .stop) s) at k m) m))))
+    go true b c = q
+    go false true c = p
+    go false false true = p
+    go false false false = walked
+
+-- The fields of a record that was looked up lie inside the stream.
+pub look-within : (s : List ℕ) (t : Stream) (i : ℕ) {r : Found} → r ≡ lookUp s t i Record Missing CrossModule → (kind start end : ℕ) → r ≡ Record kind start end → (start ≤ end) × (end ≤ length s)
+look-within s t i e kind start end h =
+    lookUp-all (λ (r : Found). r ≡ Record kind start end → (start ≤ end) × (end ≤ length s)) s t i Record Missing CrossModule
+    (λ kd a b i j q. let v : a ≡ start = cc in let w : b ≡ end = cc in (omega arith, omega arith))
+    (λ q. let w : _≡_ {A = ℕ} 0 1 = cc in absurd (omega arith))
+    (λ q. let w : _≡_ {A = ℕ} 0 1 = cc in absurd (omega arith)) (sym e ∙ h)
+
+-- Whatever holds of every answer that a whole header can give, and of the answer to a broken one, holds of what follows from a header.
+module _ {A : Type 0} (P : A → Type 0) (s : List ℕ) (k : ℕ → ℕ → ℕ → A) (z : A) (f : (first end stop : ℕ) → first ≤ end → stop ≤ length s → P (k first end stop)) (p : P z) where
+  indexes-all : 56 ≤ length s → P (indexes s k z)
+  unfolding indexes
+  indexes-all h =
+      all-field P 4 s 8 _ z
+      (λ first i. all-field P 4 s 12 _ z
+      (λ end j. all-field P 4 s 16 _ z
+      (λ bytes l. go first end bytes (leb 0x1000 first) (leb first end) (leb end 0x8000_0000) (leb bytes (length s - 56)) refl refl) p) p) p
+    where
+      go : (first end bytes : ℕ) (a b c d : Bool) → leb first end ≡ b → leb bytes (length s - 56) ≡ d → P (pick a (pick b (pick c (pick d (k first end (56 + bytes)) z) z) z) z)
+      go first end bytes true true true true e i = f first end (56 + bytes) (leb-true first end e) (omega (arith, leb-true bytes (length s - 56) i))
+      go first end bytes true true true false e i = p
+      go first end bytes true true false d e i = p
+      go first end bytes true false c d e i = p
+      go first end bytes false b c d e i = p
+
+  header-all : P (header s k z)
+  unfolding header
+  header-all = go (leb (length s) 16_777_216) (leb 56 (length s)) refl
+    where
+      sized : 56 ≤ length s → (size : ℕ) (b : Bool) → P (pick b (indexes s k z) z)
+      sized h size true = indexes-all h
+      sized h size false = p
+
+      go : (a b : Bool) → leb 56 (length s) ≡ b → P (pick a (pick b (field 4 s 4 (λ size. pick (eqb size 56) (indexes s k z) z) z) z) z)
+      go true true e = all-field P 4 s 4 _ z (λ size i. sized (leb-true 56 (length s) e) size (eqb size 56)) p
+      go true false e = p
+      go false b e = p
+
+-- What a header that was read says.
+abbrev byHead : {A : Type 0} → Head → (ℕ → ℕ → ℕ → A) → A → A
+byHead (head.Good a b c) k z = k a b c
+byHead head.Broken k z = z
+
+module _ (s : List ℕ) {r : Head} (e : r ≡ header s head.Good head.Broken) where
+  pub header-good : (a b c : ℕ) → r ≡ head.Good a b c → {A : Type 0} (k : ℕ → ℕ → ℕ → A) (z : A) → header s k z ≡ k a b c
+  header-good a b c h k z = sym (map-header (λ (r : Head). byHead r k z) s head.Good head.Broken) ∙ ap (λ (r : Head). byHead r k z) (sym e ∙ h)
+
+  pub header-broken : r ≡ head.Broken → {A : Type 0} (k : ℕ → ℕ → ℕ → A) (z : A) → header s k z ≡ z
+  header-broken h k z = sym (map-header (λ (r : Head). byHead r k z) s head.Good head.Broken) ∙ ap (λ (r : Head). byHead r k z) (sym e ∙ h)
+
+  pub header-within : (a b c : ℕ) → r ≡ head.Good a b c → (a ≤ b) × (c ≤ length s)
+  header-within a b c h =
+      header-all (λ (r : Head). r ≡ head.Good a b c → (a ≤ b) × (c ≤ length s)) s head.Good head.Broken
+      (λ x y z i j q. let u : x ≡ a = cc in let v : y ≡ b = cc in let w : z ≡ c = cc in (omega arith, omega arith))
+      (λ q. let w : _≡_ {A = ℕ} 0 1 = cc in absurd (omega arith)) (sym e ∙ h)
+
+-- A part up to a stop, or up to the end where that comes first.
+pub take-shorter : (s : List ℕ) (n : ℕ) → take (min n (length s)) s ≡ take n s
+take-shorter [] zero = take-nil (min 0 0)
+take-shorter [] (suc n) = take-nil (min (suc n) 0)
+take-shorter (x ∷ s) zero = rw (zero-min (suc (length s)))
+take-shorter (x ∷ s) (suc n) = rw (suc-min-suc n (length s)) (ap (λ (l : List ℕ). x ∷ l) (take-shorter s n))
+
+-- What a look-up says of all that goes by it.
+abbrev pub byFound : {A : Type 0} → Found → (ℕ → ℕ → ℕ → A) → A → A → A
+byFound (Record a b c) k m x = k a b c
+byFound Missing k m x = m
+byFound CrossModule k m x = x
+
+module _ (s : List ℕ) (t : Stream) (i : ℕ) {r : Found} (e : r ≡ lookUp s t i Record Missing CrossModule) where
+  pub look-by : {v : Found} → r ≡ v → {A : Type 0} (k : ℕ → ℕ → ℕ → A) (m x : A) → lookUp s t i k m x ≡ byFound v k m x
+  look-by h k m x = sym (map-look (λ (r : Found). byFound r k m x) s t i Record Missing CrossModule) ∙ ap (λ (r : Found). byFound r k m x) (sym e ∙ h)
+
+-- A part inside a stream ends where it was asked to.
+pub part-end : (s : List ℕ) (start end : ℕ) → (start ≤ end) × (end ≤ length s) → start + length (take (end - start) (drop start s)) ≡ end
+part-end s start end h =
+    let i = h .0 in
+    let j = h .1 in
+    omega (arith, length-take (end - start) (drop start s), length-drop start s)

@@ -1,0 +1,189 @@
+// A stream: the check of its header and of its records, and the way from an index to its record. Nothing else walks a stream.
+ghost use mathlib.Core.Path.{_≡_};
+ghost use Prim.Native.Nat.{_≤_, min};
+ghost use lib.ListN.{length, take};
+ghost use Rattle.streams.specs.Stream.{indexes, header, behind, passed, tiled, checked, recordAt, lookUp};
+ghost use Rattle.streams.specs.declared.stream.Head.the-variants as head;
+ghost use Rattle.streams.specs.declared.stream.Place.the-variants.{At, Beyond};
+ghost use Rattle.streams.specs.declared.stream.Found.the-variants as found;
+use crate::refusal::Refusal;
+use crate::refusal::StreamKind;
+use wire::field::Field16;
+use wire::field::Field32;
+
+// What the check found in a header: the indexes from `first` up to `end`, and the place where the records stop.
+pub struct Stream {
+    pub first: u32,
+    pub end: u32,
+    pub stop: usize,
+}
+
+pub enum StreamCheck {
+    Good(Stream),
+    Refused(Refusal),
+}
+
+// What stands for an index: the kind of a record and the places of its fields, no record, or an index of another module.
+pub enum Found {
+    Record { kind: u16, start: usize, end: usize },
+    Missing,
+    CrossModule,
+}
+
+enum Head {
+    Good(u32, u32, usize),
+    Broken,
+}
+
+// A place that a walk over records came to, or that it went past their end.
+enum Place {
+    At(usize),
+    Beyond,
+}
+
+fn indexes_of(s: &[u8]) -> Head
+    requires { ⌜ 56 ≤ length (now s) ⌝ }
+    ensures { λ r. ⌜ r ≡ indexes (now (s .entry)) head.Good head.Broken ⌝ }
+{
+    let Field32::Value(first) = wire::field::u32_at(s, 8) else {
+        return Head::Broken;
+    };
+    let Field32::Value(end) = wire::field::u32_at(s, 12) else {
+        return Head::Broken;
+    };
+    let Field32::Value(bytes) = wire::field::u32_at(s, 16) else {
+        return Head::Broken;
+    };
+    if first < 0x1000 {
+        return Head::Broken;
+    }
+    if end < first {
+        return Head::Broken;
+    }
+    if 0x8000_0000 < end {
+        return Head::Broken;
+    }
+    if s.len() - 56 < bytes as usize {
+        return Head::Broken;
+    }
+    Head::Good(first, end, 56 + (bytes as usize))
+}
+
+fn header_of(s: &[u8]) -> Head
+    ensures { λ r. ⌜ r ≡ header (now (s .entry)) head.Good head.Broken ⌝ }
+{
+    if 16_777_216 < s.len() {
+        return Head::Broken;
+    }
+    if s.len() < 56 {
+        return Head::Broken;
+    }
+    let Field32::Value(size) = wire::field::u32_at(s, 4) else {
+        return Head::Broken;
+    };
+    if size != 56 {
+        return Head::Broken;
+    }
+    indexes_of(s)
+}
+
+// The place behind the record at a place.
+fn behind_record(s: &[u8], at: usize) -> Place
+    ensures { λ r. ⌜ r ≡ behind (now (s .entry)) at At Beyond ⌝ }
+{
+    let Field16::Value(len) = wire::field::u16_at(s, at) else {
+        return Place::Beyond;
+    };
+    if len < 2 {
+        return Place::Beyond;
+    }
+    let start = at + 2;
+    let len = len as usize;
+    if s.len() - start < len {
+        return Place::Beyond;
+    }
+    Place::At(start + len)
+}
+
+// The place behind `count` records from a place on.
+fn behind_records(s: &[u8], from: usize, count: u32) -> Place
+    ensures { λ r. ⌜ r ≡ passed count (now (s .entry)) from At Beyond ⌝ }
+{
+    let mut at = from;
+    let mut left = count;
+    while 0 < left {
+        let Place::At(next) = behind_record(s, at) else {
+            return Place::Beyond;
+        };
+        at = next;
+        left -= 1;
+    }
+    Place::At(at)
+}
+
+fn tiles(s: &[u8], count: u32) -> bool
+    ensures { λ r. ⌜ r ≡ tiled count (now (s .entry)) ⌝ }
+{
+    let Place::At(at) = behind_records(s, 56, count) else {
+        return false;
+    };
+    at == s.len()
+}
+
+// The check of a stream: its header, then its records, in one pass over their heads.
+pub fn check_stream(s: &[u8], which: StreamKind) -> StreamCheck
+    ensures { λ r. ⌜ r ≡ checked which (now (s .entry)) ⌝ }
+{
+    let Head::Good(first, end, stop) = header_of(s) else {
+        return StreamCheck::Refused(Refusal::Header(which));
+    };
+    if tiles(&s[..stop], end - first) {
+        StreamCheck::Good(Stream { first, end, stop })
+    } else {
+        StreamCheck::Refused(Refusal::Tiling(which))
+    }
+}
+
+fn record_at(s: &[u8], at: usize) -> Found
+    ensures { λ r. ⌜ r ≡ recordAt (now (s .entry)) at found.Record found.Missing ⌝ }
+{
+    let Place::At(end) = behind_record(s, at) else {
+        return Found::Missing;
+    };
+    let Field16::Value(kind) = wire::field::u16_at(s, at + 2) else {
+        return Found::Missing;
+    };
+    Found::Record {
+        kind,
+        start: at + 4,
+        end,
+    }
+}
+
+fn shorter(a: usize, b: usize) -> usize
+    ensures { λ r. ⌜ r ≡ min a b ⌝ }
+{
+    if a < b { a } else { b }
+}
+
+// The record of an index of a checked stream.
+pub fn look_up(s: &[u8], stream: Stream, index: u32) -> Found
+    ensures { λ r. ⌜ r ≡ lookUp (now (s .entry)) stream index found.Record found.Missing found.CrossModule ⌝ }
+{
+    let first = stream.first;
+    if 0x8000_0000 <= index {
+        return Found::CrossModule;
+    }
+    if index < first {
+        return Found::Missing;
+    }
+    if stream.end <= index {
+        return Found::Missing;
+    }
+    let stop = shorter(stream.stop, s.len());
+    let records = &s[..stop];
+    let Place::At(at) = behind_records(records, 56, index - first) else {
+        return Found::Missing;
+    };
+    record_at(records, at)
+}
