@@ -42,6 +42,7 @@ use Rattle.reading.specs.Trace.{
   then,
   asked,
   caught,
+  Finished,
   exec,
   Key,
   Held,
@@ -246,13 +247,6 @@ module _ {R : Type 0} where
     grows entryOf body m {n = suc n} {j = suc j} h o t =
         grows-prefix [] [] (count 0 1)
         (grows-opening m (entryOf t) o (λ q. grows-exec m (λ u. grows entryOf body m {n = n} {j = j} (omega arith) q u) (body t)))
-
-  abbrev pub Finished : Trace R → Type 0
-  Finished (tr bs done ns c) = Unit {0}
-  Finished (tr bs (missing i) ns c) = Unit {0}
-  Finished (tr bs (refused f) ns c) = Unit {0}
-  Finished (tr bs (halted x) ns c) = Unit {0}
-  Finished (tr bs unfinished ns c) = ⊥
 
   grown : {s t : Trace R} → Grows s t → Finished s → t ≡ s
   grown stays f = refl

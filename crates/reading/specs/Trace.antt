@@ -92,6 +92,14 @@ module _ {R : Type 0} where
   caught (tr bs (halted x) ns c) u = tr bs (halted x) ns c
   caught (tr bs unfinished ns c) u = tr bs unfinished ns c
 
+  -- A trace that has ended, in whatever way.
+  abbrev pub Finished : Trace R → Type 0
+  Finished (tr bs done ns c) = Unit {0}
+  Finished (tr bs (missing i) ns c) = Unit {0}
+  Finished (tr bs (refused f) ns c) = Unit {0}
+  Finished (tr bs (halted x) ns c) = Unit {0}
+  Finished (tr bs unfinished ns c) = ⊥
+
   -- A program's trace, given each task's. (A `let` keeps what is not reached from being computed.)
   unfoldable pub exec : {Task : Type 0} → Mode → (Task → Trace R) → Prog R Task → Trace R
   exec m r (write bs) = tr bs done [] (count 0 0)
