@@ -1,0 +1,519 @@
+-- The laws of pages that proofs cite, so that no proof elsewhere opens a definition of `Page`. Assumes nothing.
+use Prim.Native.Nat.{ℕ, zero, suc, _+_, _-_, _<_, _≤_}
+use mathlib.Core.Logic.{_⊎_, inl, inr}
+use mathlib.Core.Path.{_≡_, refl, ap, sym, _∙_}
+use mathlib.Core.List.{List, [], _∷_, _++_}
+use mathlib.Core.Bool.{Bool, true, false}
+use lib.ListN.{length, set, take, drop, getD, length-set}
+use lib.Dec.{leb, ltb}
+use lib.Seq.{take-suc, take-all, sets, sets-eq}
+use native.Mathlib.Decide.{decLt}
+use native.Mathlib.Numerals.{add-one}
+use native.Mathlib.Nat.{add-zero, zero-add, suc-add}
+use native.Mathlib.Omega.{arith}
+use borrow.Author.Tests.{ne-eqb, lt-ltb, le-ltb, lt-leb, le-leb}
+use Rattle.wire.specs.Field.{pick}
+use Rattle.streams.specs.declared.refusal.Refusal.{Refusal}
+use Rattle.streams.specs.declared.refusal.Refusal.the-variants.{CircularTypeDefinition, TooManyOpen, ChainTooLong, NoRoom}
+use Rattle.reading.specs.Trace.{Mark, End, done, missing, refused, halted, unfinished, again, deep, long, Count, count, Trace, tr, prefix, then, asked, caught}
+use Rattle.pen.specs.declared.Pen.{Pen}
+use Rattle.pen.specs.declared.Stop.{Stop}
+use Rattle.pen.specs.declared.Stop.the-variants.{No, Missing, Refused}
+use Rattle.pen.specs.Page.{Page, page, gone, put, putAt, unlessStopped, ink, more, ticked, tick, opening, stopOf, endAs, finish, run, Wrote, say, step, lastSince, resumed, goOn, Caught, idle, opened, barred, last, _⨾_, ending, marking, bytesOf, refusedPen, unreadTrace}
+
+-- one byte, by cases
+pub put-fits : (buf : List ℕ) (p : Pen) (b : ℕ) → p .stop ≡ No → p .at < p .limit
+    → put (page buf p) b ≡ page (set buf (p .at) b) (record { at = p .at + 1; last = b; opened = p .opened; limit = p .limit; stop = No })
+unfolding put
+put-fits buf p b h l = simp (h, lt-ltb _ _ l)
+
+pub put-stored : (buf out : List ℕ) (p : Pen) (b : ℕ) → out ≡ set buf (p .at) b → p .stop ≡ No → p .at < p .limit
+    → page out (record { at = p .at + 1; last = b; opened = p .opened; limit = p .limit; stop = No }) ≡ put (page buf p) b
+put-stored buf out p b e h l = rw e (sym (put-fits buf p b h l))
+
+pub put-full : (buf : List ℕ) (p : Pen) (b : ℕ) → p .stop ≡ No → p .limit ≤ p .at → put (page buf p) b ≡ page buf (gone (p .limit) NoRoom)
+unfolding put
+put-full buf p b h l = simp (h, le-ltb _ _ l)
+
+-- a page whose pen has stopped
+abbrev pub Halted : Page → Type 0
+Halted g = idle (g .pen .stop) ≡ true
+
+idle-keeps : {A : Type 0} (x : Stop) (a b : A) → idle x ≡ true → unlessStopped x a b ≡ b
+idle-keeps No a b h = absurd (let z : _≡_ {A = ℕ} 0 1 = cc in omega arith)
+idle-keeps (Missing i) a b h = refl
+idle-keeps (Refused f) a b h = refl
+
+pub put-halted : (g : Page) (b : ℕ) → Halted g → put g b ≡ g
+unfolding put
+put-halted g b h = idle-keeps (g .pen .stop) _ _ h
+
+ink-halted : (bs : List ℕ) (g : Page) → Halted g → ink g bs ≡ g
+unfolding ink
+ink-halted [] g h = refl
+ink-halted (b ∷ bs) g h = rw (put-halted g b h) (ink-halted bs g h)
+
+tick-halted : (g : Page) → Halted g → tick g ≡ g
+unfolding tick
+tick-halted g h = idle-keeps (g .pen .stop) _ _ h
+
+count-halted : (c : ℕ) (g : Page) → Halted g → opening g c ≡ g
+unfolding opening
+count-halted zero g h = refl
+count-halted (suc c) g h = rw (tick-halted g h) (count-halted c g h)
+
+finish-halted : (g : Page) (e : Stop) → Halted g → finish g e ≡ g
+finish-halted g e h = ap (page (g .buf)) (idle-keeps (g .pen .stop) _ _ h)
+
+pub run-halted : (g : Page) (t : Trace Refusal) → Halted g → run g t ≡ g
+unfolding run
+run-halted g (tr bs e ns c) h = rw (ink-halted bs g h, count-halted (c .opened) g h) (finish-halted g (stopOf e) h)
+
+-- a text and another after it
+pub ink-append : (a : List ℕ) (g : Page) (b : List ℕ) → ink (ink g a) b ≡ ink g (a ++ b)
+unfolding ink
+ink-append [] g b = refl
+ink-append (x ∷ a) g b = ink-append a (put g x) b
+
+pub ink-nil : (g : Page) → ink g [] ≡ g
+unfolding ink
+ink-nil g = refl
+
+pub ink-one : (g : Page) (b : ℕ) → ink g (b ∷ []) ≡ put g b
+unfolding ink
+ink-one g b = refl
+
+pub ink-more : (g : Page) (s : List ℕ) (i : ℕ) → i < length s → ink g (take (i + 1) s) ≡ put (ink g (take i s)) (getD s i 0)
+ink-more g s i h = rw (add-one, take-suc s i 0, ← ink-append, ink-one)
+
+-- a loop's turn that writes the next byte of a text
+pub ink-turn : (g h k : Page) (s : List ℕ) (i : ℕ) → h ≡ ink g (take i s) → k ≡ put h (getD s i 0) → i < length s → k ≡ ink g (take (i + 1) s)
+ink-turn g h k s i e f l = cc (ink-more g s i l)
+
+pub ink-all : (g h : Page) (s : List ℕ) (i : ℕ) → h ≡ ink g (take i s) → length s ≤ i → h ≡ ink g s
+ink-all g h s i e l = rw (take-all i s l) at e
+
+-- an opening and a byte
+tick-pick : (b : Bool) (g h : Page) → tick (pick b g h) ≡ pick b (tick g) (tick h)
+tick-pick true g h = refl
+tick-pick false g h = refl
+
+tick-put-at : (x : Stop) (b : List ℕ) (at l o lim v : ℕ)
+    → let g = page b (record { at = at; last = l; opened = o; limit = lim; stop = x }) in tick (put g v) ≡ put (tick g) v
+unfolding put tick
+tick-put-at No b at l o lim v = tick-pick (ltb at lim) _ _
+tick-put-at (Missing i) b at l o lim v = refl
+tick-put-at (Refused f) b at l o lim v = refl
+
+tick-put : (g : Page) (v : ℕ) → tick (put g v) ≡ put (tick g) v
+tick-put g v = tick-put-at (g .pen .stop) (g .buf) (g .pen .at) (g .pen .last) (g .pen .opened) (g .pen .limit) v
+
+tick-ink : (bs : List ℕ) (g : Page) → tick (ink g bs) ≡ ink (tick g) bs
+unfolding ink
+tick-ink [] g = refl
+tick-ink (b ∷ bs) g = tick-ink bs (put g b) ∙ ap (λ h. ink h bs) (tick-put g b)
+
+count-ink : (c : ℕ) (g : Page) (bs : List ℕ) → opening (ink g bs) c ≡ ink (opening g c) bs
+unfolding opening
+count-ink zero g bs = refl
+count-ink (suc c) g bs = ap (λ h. opening h c) (tick-ink bs g) ∙ count-ink c (tick g) bs
+
+count-count : (c : ℕ) (g : Page) (d : ℕ) → opening (opening g c) d ≡ opening g (c + d)
+unfolding opening
+count-count zero g d = rw zero-add
+count-count (suc c) g d = count-count c (tick g) d ∙ rw suc-add
+
+finish-no-at : (x : Stop) (b : List ℕ) (at l o lim : ℕ) → let g = page b (record { at = at; last = l; opened = o; limit = lim; stop = x }) in finish g No ≡ g
+finish-no-at No b at l o lim = refl
+finish-no-at (Missing i) b at l o lim = refl
+finish-no-at (Refused f) b at l o lim = refl
+
+finish-no : (g : Page) → finish g No ≡ g
+finish-no g = finish-no-at (g .pen .stop) (g .buf) (g .pen .at) (g .pen .last) (g .pen .opened) (g .pen .limit)
+
+run-done : (g : Page) (bs : List ℕ) (ns : List Mark) (c : Count) → run g (tr bs done ns c) ≡ opening (ink g bs) (c .opened)
+unfolding run stopOf
+run-done g bs ns c = finish-no (opening (ink g bs) (c .opened))
+
+pub run-say : (g : Page) (bs : List ℕ) → run g (say bs) ≡ ink g bs
+unfolding opening
+run-say g bs = run-done g bs [] (count 0 0)
+
+-- what is written before a trace
+run-prefix : (g : Page) (bs : List ℕ) (ns : List Mark) (c : Count) (t : Trace Refusal) → run g (prefix bs ns c t) ≡ run (opening (ink g bs) (c .opened)) t
+unfolding run
+run-prefix g bs ns c (tr cs e ms d) = rw (← count-ink, ← count-count, ink-append)
+
+finish-halts-at : (x : Stop) (b : List ℕ) (at l o lim : ℕ) (e : Stop) → idle e ≡ true → Halted (finish (page b (record { at = at; last = l; opened = o; limit = lim; stop = x })) e)
+finish-halts-at No b at l o lim No h = h
+finish-halts-at No b at l o lim (Missing i) h = refl
+finish-halts-at No b at l o lim (Refused f) h = refl
+finish-halts-at (Missing i) b at l o lim e h = refl
+finish-halts-at (Refused f) b at l o lim e h = refl
+
+finish-halts : (g : Page) (e : Stop) → idle e ≡ true → Halted (finish g e)
+finish-halts g e h = finish-halts-at (g .pen .stop) (g .buf) (g .pen .at) (g .pen .last) (g .pen .opened) (g .pen .limit) e h
+
+run-stays : (g : Page) (bs : List ℕ) (e : End Refusal) (ns : List Mark) (c : Count) (u : Trace Refusal) → idle (stopOf e) ≡ true → run (run g (tr bs e ns c)) u ≡ run g (tr bs e ns c)
+unfolding run
+run-stays g bs e ns c u h = run-halted _ u (finish-halts (opening (ink g bs) (c .opened)) (stopOf e) h)
+
+idle-refused : (f : Refusal) → idle (stopOf (refused f)) ≡ true
+unfolding stopOf
+idle-refused f = refl
+
+idle-halted : (x : Mark) → idle (stopOf (halted x)) ≡ true
+unfolding stopOf
+idle-halted (again i) = refl
+idle-halted (deep i) = refl
+idle-halted (long i) = refl
+
+-- a trace and what follows it
+pub run-then : (g : Page) (s : Trace Refusal) (k : List ℕ → Trace Refusal) → run (run g s) (k (bytesOf s)) ≡ run g (then s k)
+unfolding stopOf
+run-then g (tr bs done ns c) k = ap (λ h. run h (k bs)) (run-done g bs ns c) ∙ sym (run-prefix g bs ns c (k bs))
+run-then g (tr bs (missing i) ns c) k = run-stays g bs (missing i) ns c (k bs) refl
+run-then g (tr bs (refused f) ns c) k = run-stays g bs (refused f) ns c (k bs) (idle-refused f)
+run-then g (tr bs (halted x) ns c) k = run-stays g bs (halted x) ns c (k bs) (idle-halted x)
+run-then g (tr bs unfinished ns c) k = run-stays g bs unfinished ns c (k bs) refl
+
+-- one writing after another
+infixr 30 _▹_
+pub _▹_ : {g h k : Page} {t u : Trace Refusal} → Wrote g t h → Wrote h u k → Wrote g (then t (λ _. u)) k
+_▹_ {g} {h} {k} {t} {u} e f = record { is = cc (run-then g t (λ _. u), e .is, f .is) }
+
+-- the same writing, by another name for its trace
+pub wrote-as : {g h : Page} {t u : Trace Refusal} → t ≡ u → Wrote g t h → Wrote g u h
+wrote-as {g} {h} {t} {u} f e = record { is = cc (e .is, f) }
+
+pub wrote-by : {g h : Page} {t u : Trace Refusal} → Wrote g t h → t ≡ u → Wrote g u h
+wrote-by e f = wrote-as f e
+
+-- nothing is written
+pub wrote-none : {g : Page} → Wrote g (say []) g
+wrote-none {g} = record { is = sym (run-say g [] ∙ ink-nil g) }
+
+pub wrote-same : {g : Page} {u : Trace Refusal} → say [] ≡ u → Wrote g u g
+wrote-same {g} {u} e = wrote-as e wrote-none
+
+-- a stopped pen writes nothing, whatever it is asked
+pub wrote-idle : {g : Page} {t : Trace Refusal} → Halted g → Wrote g t g
+wrote-idle {g} {t} h = record { is = sym (run-halted g t h) }
+
+-- what stops a pen: an end with nothing written before it
+finish-refused : (b : List ℕ) (p : Pen) (f : Refusal) → page b (refusedPen p f) ≡ finish (page b p) (Refused f)
+unfolding refusedPen
+finish-refused b p f = refl
+
+pub wrote-stop : (b : List ℕ) (p q : Pen) (e : End Refusal) (n : ℕ) (f : Refusal) → stopOf e ≡ Refused f → q ≡ refusedPen p f → Wrote (page b p) (tr [] e [] (count 0 n)) (page b q)
+unfolding run ink opening
+wrote-stop b p q e n f h k = record { is = rw (h, k) (finish-refused b p f) }
+
+pub wrote-missing : (b : List ℕ) (p q : Pen) (i : ℕ) → page b q ≡ finish (page b p) (Missing i) → Wrote (page b p) (tr [] (missing i) [] (count 0 0)) (page b q)
+unfolding run ink opening stopOf
+wrote-missing b p q i e = record { is = e }
+
+-- taking up an index without opening it changes nothing
+pub wrote-step : {g : Page} → Wrote g step g
+unfolding ink opening step
+wrote-step {g} = record { is = sym (run-done g [] [] (count 0 1)) }
+
+tick-full-at : (x : Stop) (b : List ℕ) (at l o lim : ℕ) → x ≡ No → 18446744073709551615 ≤ o
+    → let g = page b (record { at = at; last = l; opened = o; limit = lim; stop = x }) in g ≡ tick g
+unfolding tick
+tick-full-at No b at l o lim e h = rw (le-ltb o 18446744073709551615 h)
+tick-full-at (Missing i) b at l o lim e h = refl
+tick-full-at (Refused f) b at l o lim e h = refl
+
+pub tick-full : (b : List ℕ) (p : Pen) → p .stop ≡ No → 18446744073709551615 ≤ p .opened → page b p ≡ tick (page b p)
+tick-full b p e h = tick-full-at (p .stop) b (p .at) (p .last) (p .opened) (p .limit) e h
+
+pub wrote-tick : (g h : Page) → h ≡ tick g → Wrote g opened h
+unfolding ink opening opened
+wrote-tick g h e = record { is = e ∙ sym (run-done g [] [] (count 1 1)) }
+
+-- the last byte written
+Ended : Page → ℕ → ℕ → Type 0
+Ended g start b = Halted g ⊎ ((lastSince (g .pen) start ≡ b) × (start ≤ g .pen .at))
+
+ends-put-no : (b : List ℕ) (p : Pen) (v start : ℕ) → p .stop ≡ No → start ≤ p .at → Dec (p .at < p .limit) → Ended (put (page b p) v) start v
+unfolding Ended lastSince
+ends-put-no b p v start e h (yes l) = rw (put-fits b p v e l) (inr (rw (lt-leb (p .at + 1) start (omega arith)), omega arith))
+ends-put-no b p v start e h (no l) = rw (put-full b p v e (omega arith)) (inl refl)
+
+ends-put-at : (x : Stop) (b : List ℕ) (at l o lim v start : ℕ) → start ≤ at → Ended (put (page b (record { at = at; last = l; opened = o; limit = lim; stop = x })) v) start v
+unfolding Ended put
+ends-put-at No b at l o lim v start h = ends-put-no b (record { at = at; last = l; opened = o; limit = lim; stop = No }) v start refl h (decLt at lim)
+ends-put-at (Missing i) b at l o lim v start h = inl refl
+ends-put-at (Refused f) b at l o lim v start h = inl refl
+
+ends-ink : (bs : List ℕ) (g : Page) (start x : ℕ) → Ended g start x → Ended (ink g bs) start (last x bs)
+unfolding ink last Ended
+ends-ink [] g start x h = h
+ends-ink (b ∷ bs) g start x (inl h) = ends-ink bs (put g b) start b (inl (rw (put-halted g b h) h))
+ends-ink (b ∷ bs) g start x (inr h) = ends-ink bs (put g b) start b (ends-put-at (g .pen .stop) (g .buf) (g .pen .at) (g .pen .last) (g .pen .opened) (g .pen .limit) b start (h .1))
+
+ends-tick-at : (y : Stop) (b : List ℕ) (at l o lim start x : ℕ) → let g = page b (record { at = at; last = l; opened = o; limit = lim; stop = y }) in Ended g start x → Ended (tick g) start x
+unfolding Ended tick lastSince
+ends-tick-at No b at l o lim start x h = h
+ends-tick-at (Missing i) b at l o lim start x h = h
+ends-tick-at (Refused f) b at l o lim start x h = h
+
+ends-count : (c : ℕ) (g : Page) (start x : ℕ) → Ended g start x → Ended (opening g c) start x
+unfolding opening
+ends-count zero g start x h = h
+ends-count (suc c) g start x h = ends-count c (tick g) start x (ends-tick-at (g .pen .stop) (g .buf) (g .pen .at) (g .pen .last) (g .pen .opened) (g .pen .limit) start x h)
+
+fresh : (g : Page) → Ended g (g .pen .at) 0
+unfolding Ended lastSince
+fresh g = inr (simp (le-leb (g .pen .at) (g .pen .at) (omega arith)), omega arith)
+
+Lasts : Page → ℕ → ℕ → Type 0
+Lasts g start x = Halted g ⊎ (lastSince (g .pen) start ≡ x)
+
+lasts : (g : Page) (start x : ℕ) → Ended g start x → Lasts g start x
+unfolding Ended Lasts
+lasts g start x (inl h) = inl h
+lasts g start x (inr h) = inr (h .0)
+
+ends-done : (g : Page) (bs : List ℕ) (ns : List Mark) (c : Count) → Lasts (run g (tr bs done ns c)) (g .pen .at) (last 0 bs)
+ends-done g bs ns c = rw (run-done g bs ns c) (lasts (opening (ink g bs) (c .opened)) (g .pen .at) (last 0 bs) (ends-count (c .opened) (ink g bs) (g .pen .at) (last 0 bs) (ends-ink bs g (g .pen .at) 0 (fresh g))))
+
+ends-run : (g : Page) (t : Trace Refusal) → Lasts (run g t) (g .pen .at) (last 0 (bytesOf t))
+unfolding run Lasts stopOf
+ends-run g (tr bs done ns c) = ends-done g bs ns c
+ends-run g (tr bs (missing i) ns c) = inl (finish-halts (opening (ink g bs) (c .opened)) (Missing i) refl)
+ends-run g (tr bs (refused f) ns c) = inl (finish-halts (opening (ink g bs) (c .opened)) (stopOf (refused f)) (idle-refused f))
+ends-run g (tr bs (halted x) ns c) = inl (finish-halts (opening (ink g bs) (c .opened)) (stopOf (halted x)) (idle-halted x))
+ends-run g (tr bs unfinished ns c) = inl (finish-halts (opening (ink g bs) (c .opened)) (stopOf unfinished) refl)
+
+-- a writing that goes by the last byte of the one before it
+pub wrote-after : {g h k : Page} {t : Trace Refusal} (f : ℕ → Trace Refusal) (start : ℕ) → start ≡ g .pen .at → Wrote g t h → Wrote h (f (lastSince (h .pen) start)) k
+    → Wrote g (then t (λ bs. f (last 0 bs))) k
+unfolding Lasts
+wrote-after {g} {h} {k} {t} f start s e w = record { is = go (ends-run g t) ∙ run-then g t (λ bs. f (last 0 bs)) }
+  where
+    from : k ≡ run (run g t) (f (lastSince (run g t .pen) (g .pen .at)))
+    from = rw (← (e .is), ← s) (w .is)
+
+    go : Lasts (run g t) (g .pen .at) (last 0 (bytesOf t)) → k ≡ run (run g t) (f (last 0 (bytesOf t)))
+    go (inl x) = from ∙ run-halted _ _ x ∙ sym (run-halted _ _ x)
+    go (inr x) = rw x at from
+
+-- A missing index that is caught. A pen that had not stopped is stopped by a text only where that has no room.
+Kept : Page → Type 0
+Kept g = (g .pen .stop ≡ No) ⊎ (g .pen .stop ≡ Refused NoRoom)
+
+kept-pick : (b : Bool) (g h : Page) → Kept g → Kept h → Kept (pick b g h)
+kept-pick true g h x y = x
+kept-pick false g h x y = y
+
+kept-put-at : (x : Stop) (b : List ℕ) (at l o lim v : ℕ) → let g = page b (record { at = at; last = l; opened = o; limit = lim; stop = x }) in Kept g → Kept (put g v)
+unfolding put Kept
+kept-put-at No b at l o lim v h = kept-pick (ltb at lim) _ _ (inl refl) (inr refl)
+kept-put-at (Missing i) b at l o lim v h = h
+kept-put-at (Refused f) b at l o lim v h = h
+
+kept-ink : (bs : List ℕ) (g : Page) → Kept g → Kept (ink g bs)
+unfolding ink
+kept-ink [] g h = h
+kept-ink (b ∷ bs) g h = kept-ink bs (put g b) (kept-put-at (g .pen .stop) (g .buf) (g .pen .at) (g .pen .last) (g .pen .opened) (g .pen .limit) b h)
+
+kept-tick-at : (x : Stop) (b : List ℕ) (at l o lim : ℕ) → let g = page b (record { at = at; last = l; opened = o; limit = lim; stop = x }) in Kept g → Kept (tick g)
+unfolding tick Kept
+kept-tick-at No b at l o lim h = inl refl
+kept-tick-at (Missing i) b at l o lim h = h
+kept-tick-at (Refused f) b at l o lim h = h
+
+kept-count : (c : ℕ) (g : Page) → Kept g → Kept (opening g c)
+unfolding opening
+kept-count zero g h = h
+kept-count (suc c) g h = kept-count c (tick g) (kept-tick-at (g .pen .stop) (g .buf) (g .pen .at) (g .pen .last) (g .pen .opened) (g .pen .limit) h)
+
+caught-kept-at : (x : Stop) (g : Page) (u : ℕ → Trace Refusal) → g .pen .stop ≡ x → Kept g → goOn x u g ≡ g
+unfolding Kept
+caught-kept-at No g u e h = refl
+caught-kept-at (Missing i) g u e (inl h) = absurd (let z : _≡_ {A = ℕ} 0 1 = cc in omega arith)
+caught-kept-at (Missing i) g u e (inr h) = absurd (let z : _≡_ {A = ℕ} 0 1 = cc in omega arith)
+caught-kept-at (Refused f) g u e h = refl
+
+caught-missing-at : (x : Stop) (b : List ℕ) (at l o lim i : ℕ) (u : ℕ → Trace Refusal) → let g = page b (record { at = at; last = l; opened = o; limit = lim; stop = x }) in Kept g
+    → goOn (finish g (Missing i) .pen .stop) u (finish g (Missing i)) ≡ run g (u i)
+unfolding Kept
+caught-missing-at No b at l o lim i u h = refl
+caught-missing-at (Missing j) b at l o lim i u (inl h) = absurd (let z : _≡_ {A = ℕ} 0 1 = cc in omega arith)
+caught-missing-at (Missing j) b at l o lim i u (inr h) = absurd (let z : _≡_ {A = ℕ} 0 1 = cc in omega arith)
+caught-missing-at (Refused f) b at l o lim i u h = sym (run-halted (page b (record { at = at; last = l; opened = o; limit = lim; stop = Refused f })) (u i) refl)
+
+caught-stop-at : (x y : Stop) (b : List ℕ) (at l o lim : ℕ) (u : ℕ → Trace Refusal) → let g = page b (record { at = at; last = l; opened = o; limit = lim; stop = x }) in Kept g
+    → (f : Refusal) → y ≡ Refused f → goOn (finish g y .pen .stop) u (finish g y) ≡ finish g y
+unfolding Kept
+caught-stop-at No y b at l o lim u h f e = rw e
+caught-stop-at (Missing j) y b at l o lim u (inl h) f e = absurd (let z : _≡_ {A = ℕ} 0 1 = cc in omega arith)
+caught-stop-at (Missing j) y b at l o lim u (inr h) f e = absurd (let z : _≡_ {A = ℕ} 0 1 = cc in omega arith)
+caught-stop-at (Refused k) y b at l o lim u h f e = refl
+
+halted-as : (x : Mark) → (f : Refusal) × (stopOf (halted x) ≡ Refused f)
+unfolding stopOf
+halted-as (again i) = (CircularTypeDefinition i, refl)
+halted-as (deep i) = (TooManyOpen i, refl)
+halted-as (long i) = (ChainTooLong i, refl)
+
+module _ (u : ℕ → Trace Refusal) (g : Page) (alive : g .pen .stop ≡ No) where
+  caught-ended : (bs : List ℕ) (e : End Refusal) (ns : List Mark) (c : Count) (f : Refusal) → stopOf e ≡ Refused f → goOn (run g (tr bs e ns c) .pen .stop) u (run g (tr bs e ns c)) ≡ run g (tr bs e ns c)
+  unfolding run Kept
+  caught-ended bs e ns c f n =
+      let h = opening (ink g bs) (c .opened) in
+      caught-stop-at (h .pen .stop) (stopOf e) (h .buf) (h .pen .at) (h .pen .last) (h .pen .opened) (h .pen .limit) u (kept-count (c .opened) (ink g bs) (kept-ink bs g (inl alive))) f n
+
+  missed : (bs : List ℕ) (i : ℕ) (ns : List Mark) (c : Count) → goOn (run g (tr bs (missing i) ns c) .pen .stop) u (run g (tr bs (missing i) ns c)) ≡ run g (prefix bs ns c (u i))
+  unfolding run stopOf Kept
+  missed bs i ns c =
+      let h = opening (ink g bs) (c .opened) in
+      caught-missing-at (h .pen .stop) (h .buf) (h .pen .at) (h .pen .last) (h .pen .opened) (h .pen .limit) i u (kept-count (c .opened) (ink g bs) (kept-ink bs g (inl alive))) ∙ sym (run-prefix g bs ns c (u i))
+
+  run-caught : (s : Trace Refusal) → goOn (run g s .pen .stop) u (run g s) ≡ run g (caught s u)
+  unfolding stopOf Kept
+  run-caught (tr bs done ns c) = caught-kept-at _ (run g (tr bs done ns c)) u refl (rw (run-done g bs ns c) (kept-count (c .opened) (ink g bs) (kept-ink bs g (inl alive))))
+  run-caught (tr bs (missing i) ns c) = missed bs i ns c
+  run-caught (tr bs (refused f) ns c) = caught-ended bs (refused f) ns c f refl
+  run-caught (tr bs (halted x) ns c) = caught-ended bs (halted x) ns c (halted-as x .0) (halted-as x .1)
+  run-caught (tr bs unfinished ns c) = caught-ended bs unfinished ns c NoRoom refl
+
+pub wrote-caught : {g h k : Page} {t : Trace Refusal} {u : ℕ → Trace Refusal} → g .pen .stop ≡ No → Wrote g t h → Caught h u k → Wrote g (caught t u) k
+wrote-caught {g} {h} {k} {t} {u} a e f = record { is = rw (e .is) at (f .is) ∙ run-caught u g a t }
+
+pub prefix-none : (t : Trace Refusal) → prefix [] [] (count 0 0) t ≡ t
+prefix-none (tr bs e ns c) = simp zero-add
+
+-- a writing keeps the buffer's length
+put-length-at : (x : Stop) (b : List ℕ) (at l o lim v : ℕ) → length (put (page b (record { at = at; last = l; opened = o; limit = lim; stop = x })) v .buf) ≡ length b
+unfolding put
+put-length-at No b at l o lim v = by (ltb at lim)
+  where
+    by : (c : Bool) → length (pick c (page (set b at v) (record { at = at + 1; last = v; opened = o; limit = lim; stop = No })) (page b (gone lim NoRoom)) .buf) ≡ length b
+    by true = simp length-set
+    by false = refl
+put-length-at (Missing i) b at l o lim v = refl
+put-length-at (Refused f) b at l o lim v = refl
+
+ink-length : (bs : List ℕ) (g : Page) → length (ink g bs .buf) ≡ length (g .buf)
+unfolding ink
+ink-length [] g = refl
+ink-length (b ∷ bs) g = ink-length bs (put g b) ∙ put-length-at (g .pen .stop) (g .buf) (g .pen .at) (g .pen .last) (g .pen .opened) (g .pen .limit) b
+
+tick-buf-at : (x : Stop) (b : List ℕ) (at l o lim : ℕ) → tick (page b (record { at = at; last = l; opened = o; limit = lim; stop = x })) .buf ≡ b
+unfolding tick
+tick-buf-at No b at l o lim = refl
+tick-buf-at (Missing i) b at l o lim = refl
+tick-buf-at (Refused f) b at l o lim = refl
+
+count-buf : (c : ℕ) (g : Page) → opening g c .buf ≡ g .buf
+unfolding opening
+count-buf zero g = refl
+count-buf (suc c) g = count-buf c (tick g) ∙ tick-buf-at (g .pen .stop) (g .buf) (g .pen .at) (g .pen .last) (g .pen .opened) (g .pen .limit)
+
+run-length : (g : Page) (t : Trace Refusal) → length (run g t .buf) ≡ length (g .buf)
+unfolding run
+run-length g (tr bs e ns c) = ap length (count-buf (c .opened) (ink g bs)) ∙ ink-length bs g
+
+pub wrote-length : {g h : Page} {t : Trace Refusal} → Wrote g t h → length (h .buf) ≡ length (g .buf)
+wrote-length {g} {h} {t} w = ap (λ (x : Page). length (x .buf)) (w .is) ∙ run-length g t
+
+pub wrote-byte : {g h : Page} {b : ℕ} → h ≡ put g b → Wrote g (say (b ∷ [])) h
+wrote-byte {g} {h} {b} e = record { is = e ∙ sym (run-say g (b ∷ []) ∙ ink-one g b) }
+
+-- what catches, by cases
+pub caught-goes : {b : List ℕ} {p q : Pen} {u : ℕ → Trace Refusal} {i : ℕ} {k : Page} → p .stop ≡ Missing i → q ≡ resumed p → Wrote (page b q) (u i) k → Caught (page b p) u k
+caught-goes {b} {p} {q} {u} {i} {k} e f w = record { is = rw (e, ← f) (w .is) }
+
+-- the same laws over the shut traces
+alive : (x : Stop) → idle x ≡ false → x ≡ No
+alive No e = refl
+alive (Missing i) e = absurd (let z : _≡_ {A = ℕ} 0 1 = cc in omega arith)
+alive (Refused f) e = absurd (let z : _≡_ {A = ℕ} 0 1 = cc in omega arith)
+
+infixr 30 _▸_
+pub _▸_ : {g h k : Page} {t u : Trace Refusal} → Wrote g t h → Wrote h u k → Wrote g (t ⨾ u) k
+unfolding _⨾_
+e ▸ f = e ▹ f
+
+pub wrote-ending : {g h k : Page} {t : Trace Refusal} (f : ℕ → List ℕ) (start : ℕ) → start ≡ g .pen .at → Wrote g t h → Wrote h (say (f (lastSince (h .pen) start))) k → Wrote g (ending t f) k
+unfolding ending
+wrote-ending f start s e w = wrote-after (λ b. say (f b)) start s e w
+
+pub wrote-marking : {g h k : Page} {t : Trace Refusal} {u : ℕ → Trace Refusal} → idle (g .pen .stop) ≡ false → Wrote g t h → Caught h u k → Wrote g (marking t u) k
+unfolding marking
+wrote-marking {g} a e f = wrote-caught (alive (g .pen .stop) a) e f
+
+-- A whole trace, from the start of a buffer.
+unfoldable pub ticks : ℕ → ℕ → ℕ
+ticks o zero = o
+ticks o (suc c) = ticks (more o) c
+
+count-is : (c : ℕ) (b : List ℕ) (at l o lim : ℕ) → opening (page b (record { at = at; last = l; opened = o; limit = lim; stop = No })) c ≡ page b (record { at = at; last = l; opened = ticks o c; limit = lim; stop = No })
+unfolding opening tick ticks
+count-is zero b at l o lim = refl
+count-is (suc c) b at l o lim = count-is c b at l (more o) lim
+
+ink-fits : (bs buf : List ℕ) (at l o lim : ℕ) → at + length bs ≤ lim
+    → ink (page buf (record { at = at; last = l; opened = o; limit = lim; stop = No })) bs ≡ page (sets buf at bs) (record { at = at + length bs; last = last l bs; opened = o; limit = lim; stop = No })
+unfolding ink last
+ink-fits [] buf at l o lim h = rw add-zero
+ink-fits (b ∷ bs) buf at l o lim h =
+    let k : (at + 1) + length bs ≡ at + (suc (length bs)) = omega arith in
+    rw (put-fits buf (record { at = at; last = l; opened = o; limit = lim; stop = No }) b refl (omega arith), ink-fits bs (set buf at b) (at + 1) b o lim (omega arith), k, add-one)
+
+ink-over : (bs buf : List ℕ) (at l o lim : ℕ) → at ≤ lim → lim < at + length bs → ink (page buf (record { at = at; last = l; opened = o; limit = lim; stop = No })) bs .pen .stop ≡ Refused NoRoom
+unfolding ink
+ink-over [] buf at l o lim h k = absurd (omega arith)
+ink-over (b ∷ bs) buf at l o lim h k = by (decLt at lim) (λ d. ink-over bs (set buf at b) (at + 1) b o lim (omega arith) (omega arith))
+  where
+    by : Dec (at < lim) → (at < lim → ink (page (set buf at b) (record { at = at + 1; last = b; opened = o; limit = lim; stop = No })) bs .pen .stop ≡ Refused NoRoom)
+        → ink (put (page buf (record { at = at; last = l; opened = o; limit = lim; stop = No })) b) bs .pen .stop ≡ Refused NoRoom
+    by (yes d) rest = rw (put-fits buf (record { at = at; last = l; opened = o; limit = lim; stop = No }) b refl d) (rest d)
+    by (no d) rest = rw (put-full buf (record { at = at; last = l; opened = o; limit = lim; stop = No }) b refl (omega arith), ink-halted bs (page buf (gone lim NoRoom)) refl)
+
+-- what a text that fits leaves
+pub record Ran (buf : List ℕ) (limit : ℕ) (bs : List ℕ) (c : ℕ) (b : List ℕ) (q : Pen) : Type 0 where
+  pub at : q .at ≡ length bs
+  pub buffer : b ≡ sets buf 0 bs
+  pub opened : q .opened ≡ ticks 0 c
+  pub room : length bs ≤ limit
+
+end-stop : (p : Pen) (x : Stop) → p .stop ≡ No → endAs p x .stop ≡ x
+end-stop p No e = e
+end-stop p (Missing i) e = refl
+end-stop p (Refused f) e = refl
+
+module _ (buf : List ℕ) (limit : ℕ) (bs : List ℕ) (e : End Refusal) (ns : List Mark) (c : Count) (b : List ℕ) (q : Pen) where
+  ran : length bs ≤ limit → run (page buf (record { at = 0; last = 0; opened = 0; limit = limit; stop = No })) (tr bs e ns c)
+      ≡ page (sets buf 0 bs) (endAs (record { at = 0 + length bs; last = last 0 bs; opened = ticks 0 (c .opened); limit = limit; stop = No }) (stopOf e))
+  unfolding run
+  ran h = rw (ink-fits bs buf 0 0 0 limit (omega arith), count-is (c .opened) (sets buf 0 bs) (0 + length bs) (last 0 bs) 0 limit) refl
+
+  pub ran-fits : length bs ≤ limit → Wrote (page buf (record { at = 0; last = 0; opened = 0; limit = limit; stop = No })) (tr bs e ns c) (page b q)
+      → (q .stop ≡ stopOf e) × (q .stop ≡ No → Ran buf limit bs (c .opened) b q)
+  ran-fits h w = (stops, λ n. whole (stopOf e) refl (sym stops ∙ n))
+    where
+      p : Pen
+      p = record { at = 0 + length bs; last = last 0 bs; opened = ticks 0 (c .opened); limit = limit; stop = No }
+
+      is : page b q ≡ page (sets buf 0 bs) (endAs p (stopOf e))
+      is = w .is ∙ ran h
+
+      stops : q .stop ≡ stopOf e
+      stops = ap (λ (g : Page). g .pen .stop) is ∙ end-stop p (stopOf e) refl
+
+      whole : (x : Stop) → stopOf e ≡ x → x ≡ No → Ran buf limit bs (c .opened) b q
+      whole x y z =
+          let k : page b q ≡ page (sets buf 0 bs) p = is ∙ ap (λ x. page (sets buf 0 bs) (endAs p x)) (y ∙ z) in
+          record { at = ap (λ (g : Page). g .pen .at) k ∙ zero-add (length bs); buffer = ap (λ (g : Page). g .buf) k; opened = ap (λ (g : Page). g .pen .opened) k; room = h }
+
+  pub ran-over : limit < length bs → Wrote (page buf (record { at = 0; last = 0; opened = 0; limit = limit; stop = No })) (tr bs e ns c) (page b q) → q .stop ≡ Refused NoRoom
+  unfolding run
+  ran-over h w =
+      let g = page buf (record { at = 0; last = 0; opened = 0; limit = limit; stop = No }) in
+      let s : ink g bs .pen .stop ≡ Refused NoRoom = ink-over bs buf 0 0 0 limit (omega arith) (omega arith) in
+      let k : Halted (ink g bs) = rw s refl in
+      ap (λ (g : Page). g .pen .stop) (w .is) ∙ ap (λ (g : Page). finish g (stopOf e) .pen .stop) (count-halted (c .opened) (ink g bs) k) ∙ ap (λ (g : Page). g .pen .stop) (finish-halted (ink g bs) (stopOf e) k) ∙ s

@@ -1,0 +1,208 @@
+// The pen: where the next byte goes, what was written last, how many indexes were opened, and whether writing has stopped. A stopped pen writes nothing.
+// Where the buffer is shorter than the pen's limit the bytes past its end are counted only.
+ghost use mathlib.Core.Path.{_≡_};
+ghost use mathlib.Core.List.{[]};
+ghost use lib.ListN.{set};
+ghost use Rattle.reading.specs.Trace.{tr, missing, refused, halted, long, count};
+ghost use Rattle.pen.specs.Page.{page, put, Wrote, lastSince, resumed, refusedPen, say, idle, opened, barred, unreadTrace};
+use streams::refusal::Refusal;
+
+pub enum Stop {
+    No,
+    Missing(u32),
+    Refused(Refusal),
+}
+
+pub struct Pen {
+    pub at: usize,
+    pub last: u8,
+    pub opened: u64,
+    pub limit: usize,
+    pub stop: Stop,
+}
+
+fn store(out: &mut [u8], at: usize, b: u8)
+    ensures { λ _. ⌜ now (out .exit) ≡ set (now (out .entry)) at b ⌝ }
+{
+    if at < out.len() {
+        out[at] = b;
+    }
+}
+
+// A refused pen keeps nothing but its limit.
+fn gone(limit: usize, f: Refusal) -> Pen
+    ensures { λ r. ⌜ r ≡ Rattle.pen.specs.Page.gone limit f ⌝ }
+{
+    Pen {
+        at: 0,
+        last: 0,
+        opened: 0,
+        limit,
+        stop: Stop::Refused(f),
+    }
+}
+
+// One byte more; 15 where there is no room for it.
+pub fn byte(out: &mut [u8], p: Pen, b: u8) -> Pen
+    ensures { λ r. ⌜ page (now (out .exit)) r ≡ put (page (now (out .entry)) p) b ⌝ }
+{
+    let stop = p.stop;
+    match stop {
+        Stop::No => {
+            let at = p.at;
+            let limit = p.limit;
+            if at < limit {
+                store(out, at, b);
+                Pen {
+                    at: at + 1,
+                    last: b,
+                    opened: p.opened,
+                    limit,
+                    stop: Stop::No,
+                }
+            } else {
+                gone(limit, Refusal::NoRoom)
+            }
+        }
+        Stop::Missing(_) => p,
+        Stop::Refused(_) => p,
+    }
+}
+
+// The bytes of s.
+pub fn text(out: &mut [u8], p: Pen, s: &[u8]) -> Pen
+    ensures { λ r. ⌜ Wrote (page (now (out .entry)) p) (say (now (s .entry))) (page (now (out .exit)) r) ⌝ }
+{
+    let mut q = p;
+    let mut i = 0;
+    while i < s.len() {
+        q = byte(out, q, s[i]);
+        i += 1;
+    }
+    q
+}
+
+// A pen that has not stopped is refused.
+fn stopped(p: Pen, f: Refusal) -> Pen
+    ensures { λ r. ⌜ r ≡ refusedPen p f ⌝ }
+{
+    let stop = p.stop;
+    match stop {
+        Stop::No => gone(p.limit, f),
+        Stop::Missing(_) => p,
+        Stop::Refused(_) => p,
+    }
+}
+
+// A refusal of the rules.
+pub fn refuse(out: &[u8], p: Pen, f: Refusal) -> Pen
+    ensures { λ r. ⌜ Wrote (page (now (out .entry)) p) (tr [] (refused f) [] (count 0 0)) (page (now (out .entry)) r) ⌝ }
+{
+    stopped(p, f)
+}
+
+// A chain's 33rd record.
+pub fn too_long(out: &[u8], p: Pen, index: u32) -> Pen
+    ensures { λ r. ⌜ Wrote (page (now (out .entry)) p) (tr [] (halted (long index)) [] (count 0 0)) (page (now (out .entry)) r) ⌝ }
+{
+    stopped(p, Refusal::ChainTooLong(index))
+}
+
+// An index that may not be opened: it is open already, or 96 are.
+pub fn bar(out: &[u8], p: Pen, again: bool, index: u32) -> Pen
+    ensures { λ r. ⌜ Wrote (page (now (out .entry)) p) (tr [] (barred again index) [] (count 0 1)) (page (now (out .entry)) r) ⌝ }
+{
+    if again {
+        return stopped(p, Refusal::CircularTypeDefinition(index));
+    }
+    stopped(p, Refusal::TooManyOpen(index))
+}
+
+// An index is missing: the text that is being written ends here.
+pub fn miss(out: &[u8], p: Pen, index: u32) -> Pen
+    ensures { λ r. ⌜ Wrote (page (now (out .entry)) p) (tr [] (missing index) [] (count 0 0)) (page (now (out .entry)) r) ⌝ }
+{
+    let stop = p.stop;
+    match stop {
+        Stop::No => Pen {
+            at: p.at,
+            last: p.last,
+            opened: p.opened,
+            limit: p.limit,
+            stop: Stop::Missing(index),
+        },
+        Stop::Missing(_) => p,
+        Stop::Refused(_) => p,
+    }
+}
+
+// What could not be read inside a type: a missing record ends the text, anything else is refused.
+pub fn unread(out: &[u8], p: Pen, f: Refusal) -> Pen
+    ensures { λ r. ⌜ Wrote (page (now (out .entry)) p) (unreadTrace f) (page (now (out .entry)) r) ⌝ }
+{
+    if f.number() == 8 {
+        return miss(out, p, f.detail());
+    }
+    refuse(out, p, f)
+}
+
+// One index more was opened.
+pub fn tick(out: &[u8], p: Pen) -> Pen
+    ensures { λ r. ⌜ Wrote (page (now (out .entry)) p) opened (page (now (out .entry)) r) ⌝ }
+{
+    let stop = p.stop;
+    match stop {
+        Stop::No => {
+            let n = p.opened;
+            if n < 18446744073709551615 {
+                Pen {
+                    at: p.at,
+                    last: p.last,
+                    opened: n + 1,
+                    limit: p.limit,
+                    stop: Stop::No,
+                }
+            } else {
+                p
+            }
+        }
+        Stop::Missing(_) => p,
+        Stop::Refused(_) => p,
+    }
+}
+
+// The last byte written since a place; 0 where there is none.
+pub fn last_since(p: Pen, start: usize) -> u8
+    ensures { λ r. ⌜ r ≡ lastSince p start ⌝ }
+{
+    let at = p.at;
+    if at <= start {
+        return 0;
+    }
+    p.last
+}
+
+// A pen that stopped at a missing index goes on.
+pub fn resume(p: Pen) -> Pen
+    ensures { λ r. ⌜ r ≡ resumed p ⌝ }
+{
+    Pen {
+        at: p.at,
+        last: p.last,
+        opened: p.opened,
+        limit: p.limit,
+        stop: Stop::No,
+    }
+}
+
+// Whether the pen has stopped.
+pub fn is_idle(p: Pen) -> bool
+    ensures { λ r. ⌜ r ≡ idle (p .stop) ⌝ }
+{
+    let stop = p.stop;
+    match stop {
+        Stop::No => false,
+        Stop::Missing(_) => true,
+        Stop::Refused(_) => true,
+    }
+}
