@@ -18,17 +18,17 @@ use Rattle.rules.specs.Flags.{Settings}
 unfoldable pub digit : ℕ → ℕ
 digit n = pick (ltb n 10) (48 + n) (87 + n)
 
--- A number to a base, in at most so many digits and one.
+-- A number to a base, in at most so many digits.
 unfoldable pub numeral : ℕ → ℕ → ℕ → List ℕ
-numeral base zero n = digit n ∷ []
+numeral base zero n = []
 numeral base (suc f) n = pick (ltb n base) (digit n ∷ []) (numeral base f (n / base) ++ digit (n % base) ∷ [])
 
--- An index or a kind in hexadecimal; a count in decimal.
+-- An index or a kind in hexadecimal, a u32 in 8 digits at most; a count in decimal, a u64 in 20 at most.
 unfoldable pub hex : ℕ → List ℕ
-hex n = numeral 16 7 n
+hex n = numeral 16 8 n
 
 unfoldable pub decimal : ℕ → List ℕ
-decimal n = numeral 10 19 n
+decimal n = numeral 10 20 n
 
 -- "`<missing type 0x..>` and `<unimplemented type kind 0x..>` replace an index written by itself."
 unfoldable pub missingMark : ℕ → List ℕ

@@ -1,0 +1,11 @@
+-- `numeral` calls itself with one digit fewer: the measure is the digits that are left.
+-- Assumes nothing.
+mod Common
+mod Numeral
+use Rattle.writers.proofs.numbers.+numeral.Proof.Common.{μ-numeral}
+use Rattle.writers.proofs.numbers.+numeral.Proof.Numeral as numeral-proof
+use Rattle.writers.proofs.numbers.+numeral.{statement}
+use Rattle.writers.proofs.numbers.+numeral.Tie.{close}
+
+pub +numeral-spec : {M : Type 1} → statement M
++numeral-spec = close μ-numeral numeral-proof.closed
