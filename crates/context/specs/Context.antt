@@ -1,0 +1,79 @@
+-- What the values that are passed down stand for: settings, open keys, pointer levels, array levels.
+use Prim.Native.Nat.{ℕ, _+_, _≤_, _/_, _%_}
+use mathlib.Core.Path.{_≡_}
+use mathlib.Core.Bool.{Bool, true, false, _||_}
+use mathlib.Core.List.{List, [], _∷_, map}
+use lib.ListN.{drop, length}
+use lib.Dec.{eqb, leb, ltb}
+use Rattle.wire.specs.Field.{pick}
+use Rattle.streams.specs.declared.refusal.Refusal.the-variants.{UnknownFlags}
+use Rattle.reading.specs.Trace.{Key, key, Held, held}
+use Rattle.rules.specs.Flags.{Settings, settings}
+use Rattle.rules.specs.Record.{Table, tableOf}
+use Rattle.rules.specs.Text.{Level, level}
+use Rattle.context.specs.declared.flags.TypeFormatterFlags.{TypeFormatterFlags}
+use Rattle.context.specs.declared.flags.FlagsRead.{FlagsRead}
+use Rattle.context.specs.declared.flags.FlagsRead.the-variants.{Known, Refused}
+use Rattle.context.specs.declared.flags.Call.{Call}
+use Rattle.context.specs.declared.seen.Seen.{Seen}
+use Rattle.context.specs.declared.levels.PtrAttributes.{PtrAttributes}
+use Rattle.context.specs.declared.levels.Levels.{Levels}
+use Rattle.context.specs.declared.levels.Dimensions.{Dimensions}
+
+-- The flags of a number, or refusal 1.
+unfoldable pub known : ℕ → FlagsRead
+known bits = pick (ltb bits 64) (Known (record { 0 = bits })) (Refused (UnknownFlags bits))
+
+-- Whether a flag, given by its weight, is among some.
+unfoldable pub intersects : ℕ → ℕ → Bool
+intersects bits weight = pick (eqb weight 0) false (eqb (bits / weight % 2) 1)
+
+-- The settings and the table that a call's writers go by.
+unfoldable pub settingsOf : Call → Settings
+settingsOf c = settings (c .flags .0) (c .size)
+
+unfoldable pub tableIn : List ℕ → List ℕ → Call → Table
+tableIn types ids c = tableOf types (c .types) ids (c .ids)
+
+-- Ways and indexes side by side.
+unfoldable pub keys : List ℕ → List ℕ → List Key
+keys [] il = []
+keys (w ∷ wl) [] = []
+keys (w ∷ wl) (i ∷ il) = key w i ∷ keys wl il
+
+-- The open keys, the newest first.
+unfoldable pub keysOf : Seen → List Key
+keysOf o = keys (drop (o .left) (o .ways)) (drop (o .left) (o .indexes))
+
+unfoldable pub hasIndex : ℕ → List Key → Bool
+hasIndex i [] = false
+hasIndex i (k ∷ o) = eqb (k .index) i || hasIndex i o
+
+-- What is held while a writer runs.
+unfoldable pub holding : Call → Seen → Held
+holding c o = held (c .chain) (keysOf o)
+
+-- The number of the refusal where an index is opened, and 0 where it may be.
+unfoldable pub entryNo : List Key → ℕ → ℕ
+entryNo o i = pick (hasIndex i o) 12 (pick (leb 96 (length o)) 13 0)
+
+-- What `entry` gives: the number, and that there is room where it is 0.
+pub record Entering (o : Seen) (i : ℕ) (r : ℕ) : Type 0 where
+  pub number : r ≡ entryNo (keysOf o) i
+  pub free : 1 ≤ o .left + r
+
+-- The pointer levels, the innermost first.
+abbrev pub levelOf : PtrAttributes → Level
+levelOf l = level (l .constant) (l .pointee) (l .mode)
+
+unfoldable pub levelsOf : Levels → List Level
+levelsOf o = map levelOf (drop (o .left) (o .items))
+
+-- The byte sizes of an array's levels, the innermost first.
+unfoldable pub sizesOf : Dimensions → List ℕ
+sizesOf o = drop (o .left) (o .items)
+
+-- What `room` gives: how many levels more may follow, and whether 32 are there.
+pub record Room (o : Dimensions) (r : ℕ) : Type 0 where
+  pub is : leb 32 (length (sizesOf o)) ≡ eqb r 0
+  pub free : r ≡ o .left
