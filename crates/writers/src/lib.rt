@@ -2,3 +2,4 @@
 pub mod marks;
 pub mod names;
 pub mod numbers;
+pub mod strings;

@@ -1,0 +1,114 @@
+-- The laws of settings, of what is named and of pointer levels. Assumes nothing.
+use Prim.Native.Nat.{ℕ, zero, suc, _+_, _<_, _≤_}
+use mathlib.Core.Path.{_≡_, refl, ap, sym, _∙_}
+use mathlib.Core.List.{List, [], _∷_, _++_, append-assoc, map}
+use mathlib.Core.Bool.{Bool, true, false, not}
+use lib.ListN.{length, drop, getD, drop-of-length-le}
+use lib.Seq.{drop-cons}
+use native.Mathlib.Numerals.{add-one}
+use native.Mathlib.Omega.{arith}
+use Rattle.wire.specs.Field.{pick}
+use Rattle.wire.specs.Text.{bytes}
+use Rattle.codeview.specs.declared.record.PointerMode.{PointerMode}
+use Rattle.codeview.specs.declared.record.ClassKind.{ClassKind}
+use Rattle.codeview.specs.declared.record.ClassKind.the-variants as kind
+use Rattle.rules.specs.Flags.{Settings}
+use Rattle.rules.specs.Text.{primitiveName, primitiveText, worded, classText, sign, Level, levels}
+use Rattle.pen.specs.Page.{Page, page, ink, Wrote, say}
+use Rattle.pen.proofs.Laws.{ink-append, ink-nil, run-say}
+use Rattle.context.specs.declared.levels.PtrAttributes.{PtrAttributes}
+use Rattle.context.specs.Context.{levelOf}
+use Rattle.parts.specs.Parts.{behindWord, constText, spaced, levelText}
+
+-- A text under a condition.
+pub text-on : (b : Bool) (s : List ℕ) → b ≡ true → say s ≡ say (pick b s [])
+text-on b s h = rw h
+
+pub text-off : (b : Bool) (s : List ℕ) → b ≡ false → say [] ≡ say (pick b s [])
+text-off b s h = rw h
+
+-- A primitive by itself, and one that is pointed to.
+pub primitive-itself : (c : Settings) (constant : Bool) (code n : ℕ) → n ≡ 0 → say (pick constant (bytes "const ") [] ++ primitiveName code) ≡ say (primitiveText c constant code n)
+unfolding primitiveText
+primitive-itself c constant code n h = rw h
+
+pub primitive-pointed : (c : Settings) (constant space : Bool) (code n : ℕ) → space ≡ c .spacePointer → (n ≡ 0 → ⊥)
+    → say (primitiveName code ++ (pick constant (bytes " const") [] ++ (pick space (bytes " ") [] ++ bytes "*"))) ≡ say (primitiveText c constant code n)
+unfolding primitiveText
+primitive-pointed c constant space code zero e h = absurd (h refl)
+primitive-pointed c constant space code (suc n) e h = rw e
+
+-- A name alone, and behind its word.
+pub named-alone : (c : Settings) (only : Bool) (word name : List ℕ) → only ≡ c .nameOnly → only ≡ true → say name ≡ say (behindWord c word name)
+unfolding behindWord
+named-alone c only word name e h = simp (sym e ∙ h)
+
+pub named-behind : (c : Settings) (only : Bool) (word name : List ℕ) → only ≡ c .nameOnly → only ≡ false → say (word ++ (bytes " " ++ name)) ≡ say (behindWord c word name)
+unfolding behindWord
+named-behind c only word name e h = simp (sym e ∙ h)
+
+pub class-as : (c : Settings) (k j : ClassKind) (name : List ℕ) → k ≡ j → say (classText c j name) ≡ say (classText c k name)
+class-as c k j name e = rw e
+
+-- The sign of a mode.
+pub sign-as : (m n : PointerMode) → m ≡ n → say (sign n) ≡ say (sign m)
+sign-as m n e = rw e
+
+-- The const of what is pointed to.
+pub const-free : (constant free : Bool) → free ≡ true → say (pick constant (bytes " const") []) ≡ say (constText constant free)
+unfolding constText
+const-free constant free h = rw h
+
+pub const-first : (constant free : Bool) → free ≡ false → say (pick constant (bytes "const") []) ≡ say (constText constant free)
+unfolding constText
+const-first constant free h = rw h
+
+-- The space before a sign.
+pub spaced-off : (space free signed pointee : Bool) → space ≡ false → false ≡ spaced space free signed pointee
+unfolding spaced
+spaced-off space free signed pointee h = rw h
+
+pub spaced-const : (space free signed pointee : Bool) → space ≡ true → pointee ≡ true → true ≡ spaced space free signed pointee
+unfolding spaced
+spaced-const space true true pointee h k = rw (h, k)
+spaced-const space true false pointee h k = rw h
+spaced-const space false true pointee h k = rw (h, k)
+spaced-const space false false pointee h k = rw (h, k)
+
+pub spaced-signed : (space free signed pointee : Bool) → space ≡ true → pointee ≡ false → signed ≡ true → false ≡ spaced space free signed pointee
+unfolding spaced
+spaced-signed space free signed pointee h k l = rw (h, k, l)
+
+pub spaced-free : (space free signed pointee : Bool) → space ≡ true → pointee ≡ false → signed ≡ false → free ≡ spaced space free signed pointee
+unfolding spaced
+spaced-free space true signed pointee h k l = rw (h, k, l)
+spaced-free space false signed pointee h k l = rw (h, k, l)
+
+-- One level.
+pub level-is : (c : Settings) (free signed space on : Bool) (l : Level) → space ≡ c .spacePointer → on ≡ spaced space free signed (l .pointee)
+    → say (constText (l .pointee) free ++ (pick on (bytes " ") [] ++ (sign (l .mode) ++ pick (l .constant) (bytes " const") []))) ≡ say (levelText c free signed l)
+unfolding levelText
+level-is c free signed space on l e h = rw (h, e)
+
+-- All levels: the first, then the others.
+pub levels-more : (c : Settings) (free signed : Bool) (l : Level) (ls : List Level) → levels c free signed (l ∷ ls) ≡ levelText c free signed l ++ levels c true (not (l .constant)) ls
+unfolding levels levelText constText spaced
+levels-more c free signed l ls = simp append-assoc
+
+module _ (c : Settings) (free signed : Bool) (items : List PtrAttributes) (i : ℕ) where
+  levels-next : (d : PtrAttributes) → i < length items
+      → levels c free signed (map levelOf (drop i items))
+      ≡ levelText c free signed (levelOf (getD items i d)) ++ levels c true (not (getD items i d .constant)) (map levelOf (drop (i + 1) items))
+  levels-next d h = rw (add-one, drop-cons items i d h) (levels-more c free signed (levelOf (getD items i d)) _)
+
+  -- A turn of a loop over the levels, and its end.
+  pub levels-turn : (d : PtrAttributes) (all : List ℕ) (g h k : Page) → i < length items
+      → ink g (levels c free signed (map levelOf (drop i items))) ≡ ink k all
+      → Wrote g (say (levelText c free signed (levelOf (getD items i d)))) h
+      → ink h (levels c true (not (getD items i d .constant)) (map levelOf (drop (i + 1) items))) ≡ ink k all
+  levels-turn d all g h k lt e w =
+      rw (w .is, run-say) (ink-append (levelText c free signed (levelOf (getD items i d))) g _ ∙ ap (ink g) (sym (levels-next d lt)) ∙ e)
+
+  pub levels-end : (all : List ℕ) (g k : Page) → length items ≤ i → ink g (levels c free signed (map levelOf (drop i items))) ≡ ink k all → Wrote k (say all) g
+  unfolding levels
+  levels-end all g k h e = record { is = (rw (drop-of-length-le items h, ink-nil) at e) ∙ sym (run-say k all) }
