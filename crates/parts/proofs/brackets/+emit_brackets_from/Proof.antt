@@ -1,0 +1,11 @@
+-- `emit_brackets_from` calls itself with the next level: the measure is the levels that are left.
+-- Assumes nothing.
+mod Common
+mod EmitBracketsFrom
+use Rattle.parts.proofs.brackets.+emit_brackets_from.Proof.Common.{μ-emit-brackets-from}
+use Rattle.parts.proofs.brackets.+emit_brackets_from.Proof.EmitBracketsFrom as emit-brackets-from-proof
+use Rattle.parts.proofs.brackets.+emit_brackets_from.{statement}
+use Rattle.parts.proofs.brackets.+emit_brackets_from.Tie.{close}
+
+pub +emit-brackets-from-spec : {M : Type 1} → statement M
++emit-brackets-from-spec = close μ-emit-brackets-from emit-brackets-from-proof.closed

@@ -1,0 +1,15 @@
+-- The measure, and what `emit_brackets_from` is given and asks at a measure.
+use Prim.Native.Nat.{ℕ, _-_, _<_}
+use borrow.Fn.Kinds.{In}
+use borrow.Fn.PlainCycle.{Measures, is, falls, and}
+use Rattle.parts.proofs.brackets.emit_brackets_from.Reads as emit-brackets-from
+use Rattle.parts.proofs.brackets.emit_brackets_from.Kinds as emit-brackets-from-kinds
+
+abbrev pub μ-emit-brackets-from : Measures 1 emit-brackets-from-kinds.ps ℕ
+μ-emit-brackets-from κs a = 32 - a .1 .1 .1 .0
+
+abbrev pub from-at : ℕ → In 1 emit-brackets-from-kinds.ps
+from-at t = and 1 emit-brackets-from-kinds.ps (is 1 emit-brackets-from-kinds.ps μ-emit-brackets-from t) emit-brackets-from.Pre
+
+abbrev pub from-below : ℕ → In 1 emit-brackets-from-kinds.ps
+from-below t = and 1 emit-brackets-from-kinds.ps (falls 1 emit-brackets-from-kinds.ps _<_ μ-emit-brackets-from t) emit-brackets-from.Pre
