@@ -1,5 +1,5 @@
 -- The laws of the stacks: one step of a search, a push, a change of the newest, and when a stack is full. Assumes nothing.
-use Prim.Native.Nat.{ℕ, suc, _+_, _-_, _<_, _≤_}
+use Prim.Native.Nat.{ℕ, suc, _+_, _-_, _<_, _≤_, min}
 use mathlib.Core.Path.{_≡_, refl, ap, sym, _∙_}
 use mathlib.Core.List.{List, [], _∷_, map}
 use mathlib.Core.Bool.{Bool, true, false, _||_}
@@ -55,10 +55,24 @@ drop-push l n x h k =
     let e : (n - 1) + 1 ≡ n = omega arith in
     drop-set l (n - 1) x (omega arith) ∙ (rw e)
 
-pub keys-push : (w l : List ℕ) (n y x : ℕ) → 0 < n → n ≤ length w → n ≤ length l
-    → keys (drop (n - 1) (set w (n - 1) y)) (drop (n - 1) (set l (n - 1) x)) ≡ key y x ∷ keys (drop n w) (drop n l)
+-- a stack that starts behind its array is empty, as one that starts at its end
+drop-first : {A : Type 0} (l : List A) (n : ℕ) → drop (min n (length l)) l ≡ drop n l
+drop-first l n = by (decLt n (length l))
+  where
+    by : Dec (n < length l) → drop (min n (length l)) l ≡ drop n l
+    by (yes e) = let z : min n (length l) ≡ n = omega arith in rw z
+    by (no e) =
+        let z : length l ≤ min n (length l) = omega arith in
+        let y : length l ≤ n = omega arith in
+        rw (drop-of-length-le l z, drop-of-length-le l y)
+
+drop-push-first : {A : Type 0} (l : List A) (n m : ℕ) (x : A) → 0 < m → m ≡ min n (length l) → drop (m - 1) (set l (m - 1) x) ≡ x ∷ drop n l
+drop-push-first l n m x h e = drop-push l m x h (omega arith) ∙ (rw (e, drop-first l n))
+
+pub keys-push : (w l : List ℕ) (n m y x : ℕ) → 0 < m → m ≡ min n (length w) → m ≡ min n (length l)
+    → keys (drop (m - 1) (set w (m - 1) y)) (drop (m - 1) (set l (m - 1) x)) ≡ key y x ∷ keys (drop n w) (drop n l)
 unfolding keys
-keys-push w l n y x h j k = rw (drop-push w n y h j, drop-push l n x h k)
+keys-push w l n m y x h j k = rw (drop-push-first w n m y h j, drop-push-first l n m x h k)
 
 -- the number of an opening
 keys-length : (w l : List ℕ) → length w ≡ length l → length (keys w l) ≡ length l
@@ -88,8 +102,8 @@ entry-free w l n i j k h e =
     simp (h, lt-leb 96 _ m)
 
 -- how many more levels of an array may follow
-pub room-is : (l : List ℕ) (n : ℕ) → length l ≡ 32 → n ≤ 32 → leb 32 (length (drop n l)) ≡ eqb n 0
-room-is l n k h = by (decLt 0 n)
+pub room-is : (l : List ℕ) (n : ℕ) → length l ≡ 32 → leb 32 (length (drop n l)) ≡ eqb n 0
+room-is l n k = by (decLt 0 n)
   where
     by : Dec (0 < n) → leb 32 (length (drop n l)) ≡ eqb n 0
     by (yes e) = let m : length (drop n l) < 32 = simp length-drop (omega arith) in let z : n ≡ 0 → ⊥ = λ z. omega arith in simp (ne-eqb _ _ z, lt-leb 32 _ m)

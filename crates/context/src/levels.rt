@@ -49,7 +49,6 @@ pub fn push_level(o: Levels, l: PtrAttributes) -> Levels
 
 // A modifier between the last pointer and what it points to.
 pub fn over_pointee(o: Levels, constant: bool) -> Levels
-    requires { ⌜ o .left ≤ 96 ⌝ }
     ensures { λ r. ⌜ (r .left ≡ o .left) × (levelsOf r ≡ overPointee constant (levelsOf o)) ⌝ }
 {
     let at = o.left;
@@ -88,7 +87,6 @@ pub fn push_dimension(o: Dimensions, bytes: u64) -> Dimensions
 
 // How many levels more may follow.
 pub fn room(o: Dimensions) -> usize
-    requires { ⌜ o .left ≤ 32 ⌝ }
     ensures { λ r. ⌜ Room o r ⌝ }
 {
     o.left

@@ -1,7 +1,7 @@
 // The indexes that are open, each with the way it came; the newest lies lowest.
 ghost use mathlib.Core.Path.{_≡_};
 ghost use mathlib.Core.List.{[], _∷_};
-ghost use Prim.Native.Nat.{_-_, _≤_, _<_};
+ghost use Prim.Native.Nat.{_<_, min};
 ghost use Rattle.reading.specs.Trace.{key};
 ghost use Rattle.context.specs.Context.{keysOf, hasIndex, Entering};
 
@@ -22,7 +22,6 @@ pub fn nothing() -> Seen
 }
 
 fn has(o: Seen, index: u32) -> bool
-    requires { ⌜ o .left ≤ 96 ⌝ }
     ensures { λ r. ⌜ r ≡ hasIndex index (keysOf o) ⌝ }
 {
     let a = o.indexes;
@@ -38,7 +37,6 @@ fn has(o: Seen, index: u32) -> bool
 
 // The number of the refusal where an index is opened, and 0 where it may be.
 pub fn entry(o: Seen, index: u32) -> u32
-    requires { ⌜ o .left ≤ 96 ⌝ }
     ensures { λ r. ⌜ Entering o index r ⌝ }
 {
     if has(o, index) {
@@ -51,12 +49,19 @@ pub fn entry(o: Seen, index: u32) -> u32
     0
 }
 
+// The first place of a stack; one that starts behind its array is empty.
+fn first(left: usize) -> usize
+    ensures { λ r. ⌜ r ≡ min left 96 ⌝ }
+{
+    if left < 96 { left } else { 96 }
+}
+
 // One more is open.
 pub fn insert(o: Seen, way: u8, index: u32) -> Seen
-    requires { ⌜ (0 < o .left) × (o .left ≤ 96) ⌝ }
-    ensures { λ r. ⌜ (r .left ≡ o .left - 1) × (keysOf r ≡ key way index ∷ keysOf o) ⌝ }
+    requires { ⌜ 0 < o .left ⌝ }
+    ensures { λ r. ⌜ (r .left < o .left) × (r .left < 96) × (keysOf r ≡ key way index ∷ keysOf o) ⌝ }
 {
-    let at = o.left - 1;
+    let at = first(o.left) - 1;
     let mut a = o.indexes;
     let mut w = o.ways;
     a[at] = index;

@@ -1,6 +1,5 @@
 // The signs of the pointers on the way to a type.
 ghost use mathlib.Core.Path.{_≡_};
-ghost use Prim.Native.Nat.{_≤_};
 ghost use Rattle.rules.specs.Text.{sign, levels};
 ghost use Rattle.pen.specs.Page.{page, Wrote, say};
 ghost use Rattle.context.specs.Context.{settingsOf, levelOf, levelsOf};
@@ -72,7 +71,6 @@ pub fn emit_attributes(
     free: bool,
     signed: bool,
 ) -> Pen
-    requires { ⌜ o .left ≤ 96 ⌝ }
     ensures { λ r. ⌜ Wrote (page (now (out .entry)) p) (say (levels (settingsOf call) free signed (levelsOf o))) (page (now (out .exit)) r) ⌝ }
 {
     let items = o.items;

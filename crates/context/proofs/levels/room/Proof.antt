@@ -9,7 +9,7 @@ use Rattle.context.proofs.levels.room.Tie as tie
 
 returns : tie.Need-returns
 unfolding sizesOf
-returns c = record { is = room-is (c .args .o .items) (c .args .o .left) (search needs) (search needs); free = refl }
+returns c = record { is = room-is (c .args .o .items) (c .args .o .left) (search needs); free = refl }
 
 pub room-spec : {M : Type 1} → statement M
 room-spec = tie.close (tie.spec returns)

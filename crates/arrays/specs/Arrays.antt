@@ -1,0 +1,40 @@
+-- The levels of an array as the code gathers them, and what the rules write by them.
+use Prim.Native.Nat.{ℕ}
+use mathlib.Core.Path.{_≡_}
+use mathlib.Core.List.{List, [], _∷_}
+use Rattle.streams.specs.declared.refusal.Refusal.{Refusal}
+use Rattle.codeview.specs.declared.record.TypeData.{TypeData}
+use Rattle.reading.specs.Trace.{Trace, tr, halted, long, count, prefix, Held}
+use Rattle.rules.specs.Flags.{Settings}
+use Rattle.rules.specs.Record.{Table, typeContents, arrayOr}
+use Rattle.rules.specs.Rules.{element, baseText, unread, walked, ruled}
+use Rattle.context.specs.Context.{settingsOf, tableIn, sizesOf}
+use Rattle.context.specs.declared.flags.Call.{Call}
+use Rattle.arrays.specs.declared.ArrayEnd.{ArrayEnd}
+use Rattle.arrays.specs.declared.ArrayEnd.the-variants.{Base, TooLong, Refused}
+use Rattle.arrays.specs.declared.ArrayInfo.{ArrayInfo}
+
+-- What a type counts in the measure of the writers that call one another: an array one, any other type none.
+unfoldable pub arrayed : TypeData → ℕ
+arrayed t = arrayOr (typeContents [] t) (λ e b. 1) 0
+
+-- The same of an end: only a base could be an array.
+unfoldable pub endArrayed : ArrayEnd → ℕ
+endArrayed (Base t) = arrayed t
+endArrayed TooLong = 0
+endArrayed (Refused f) = 0
+
+-- What an index under these sizes comes to, once it is taken up, by its end: the base and the brackets, or what stops there.
+unfoldable pub endTrace : Settings → Table → Held → List ℕ → List ℕ → ℕ → ArrayEnd → Trace Refusal
+endTrace c t h types sizes base (Base d) = ruled c t h (baseText c t base sizes (typeContents types d))
+endTrace c t h types sizes base TooLong = tr [] (halted (long base)) [] (count 0 0)
+endTrace c t h types sizes base (Refused f) = ruled c t h (unread f)
+
+-- What `get_array_info` gives of an array's element: how many records were taken up, one for each level; that with these the end is the element's trace;
+-- and that the base is no array.
+pub record Info (types : List ℕ) (call : Call) (e size : ℕ) (r : ArrayInfo) : Type 0 where
+  pub taken : ℕ
+  pub is : (ids : List ℕ) (h : Held)
+      → prefix [] [] (count 0 taken) (endTrace (settingsOf call) (tableIn types ids call) h types (sizesOf (r .sizes)) (r .base .0) (r .end))
+      ≡ walked (settingsOf call) (tableIn types ids call) h (element e (size ∷ []))
+  pub flat : endArrayed (r .end) ≡ 0

@@ -1,0 +1,118 @@
+-- The laws of the pieces: the cases of the code lead to the texts of the rules. Assumes nothing.
+use Prim.Native.Nat.{ℕ, zero, suc, _+_, _*_, _≤_}
+use mathlib.Core.Path.{_≡_, refl, sym, _∙_}
+use mathlib.Core.List.{List, [], _∷_}
+use mathlib.Core.Bool.{Bool, true, false, _&&_, not}
+use lib.Dec.{eqb}
+use lib.ListN.{length, getD, List·getD-eq-default}
+use native.Mathlib.Omega.{arith}
+use borrow.Author.Tests.{eq-eqb, ne-eqb}
+use denote.Enum.Declared.{tagOf}
+use package.types.Run.{OneOf, miss}
+use Rattle.wire.specs.Field.{pick, number}
+use Rattle.wire.specs.Text.{bytes}
+use Rattle.codeview.specs.declared.record.ClassType.{ClassType}
+use Rattle.codeview.specs.declared.record.UnionType.{UnionType}
+use Rattle.codeview.specs.declared.record.EnumerationType.{EnumerationType}
+use Rattle.codeview.specs.declared.record.EnumerateType.{EnumerateType}
+use Rattle.codeview.specs.declared.record.TypeData.{TypeData}
+use Rattle.codeview.specs.declared.record.TypeData.the-variants as type
+use Rattle.codeview.proofs.record.TypeData.{the-type}
+use Rattle.rules.specs.Flags.{Settings}
+use Rattle.rules.specs.Record.{nameAt, typeContents}
+use Rattle.rules.specs.Rules.{namedText}
+use Rattle.rules.specs.Text.{worded, classText, unhandledType, Level, levels}
+use Rattle.pen.specs.Page.{say}
+use Rattle.parts.specs.Parts.{behindWord}
+use Rattle.pieces.specs.Pieces.{commaText, staticText, recordText, isSign}
+
+-- Bytes past the end count as zeros, and so does a number made of them.
+pub number-past : (width : ℕ) (s : List ℕ) (at : ℕ) → length s ≤ at → number width s at ≡ 0
+unfolding number
+number-past zero s at h = refl
+number-past (suc width) s at h = rw (List·getD-eq-default s 0 h, number-past width s (at + 1) (omega arith)) refl
+
+-- A number of four bytes.
+pub number-four : (s : List ℕ) (at a b c d : ℕ) → a ≡ getD s at 0 → b ≡ getD s (at + 1) 0 → c ≡ getD s (at + 2) 0 → d ≡ getD s (at + 3) 0
+    → a + 256 * (b + 256 * (c + 256 * d)) ≡ number 4 s at
+unfolding number
+number-four s at a b c d e f g h =
+    let x : at + 1 + 1 ≡ at + 2 = omega arith in
+    let y : at + 2 + 1 ≡ at + 3 = omega arith in
+    rw (e, f, g, h, x, y) (omega arith)
+
+-- The comma, with and without its space.
+pub comma-spaced : (c : Settings) (space between : Bool) → space ≡ c .spaceComma → space ≡ true → say (pick between (bytes ", ") []) ≡ say (commaText c between)
+unfolding commaText
+comma-spaced c space between e h = rw (sym e ∙ h)
+
+pub comma-close : (c : Settings) (space between : Bool) → space ≡ c .spaceComma → space ≡ false → say (pick between (bytes ",") []) ≡ say (commaText c between)
+unfolding commaText
+comma-close c space between e h = rw (sym e ∙ h)
+
+-- `static `, by the flag and by the this pointer.
+pub static-never : (c : Settings) (off : Bool) (this : ℕ) → off ≡ c .noStatic → off ≡ true → say [] ≡ say (staticText c this)
+unfolding staticText
+static-never c off this e h = rw (sym e ∙ h) (never (eqb this 0))
+  where
+    never : (b : Bool) → say [] ≡ say (pick (b && not true) (bytes "static ") [])
+    never true = refl
+    never false = refl
+
+pub static-by : (c : Settings) (off : Bool) (this : ℕ) → off ≡ c .noStatic → off ≡ false → say (pick (eqb this 0) (bytes "static ") []) ≡ say (staticText c this)
+unfolding staticText
+static-by c off this e h = rw (sym e ∙ h) (always (eqb this 0))
+  where
+    always : (b : Bool) → say (pick b (bytes "static ") []) ≡ say (pick (b && not false) (bytes "static ") [])
+    always true = refl
+    always false = refl
+
+-- The records that a text names, by kind.
+module _ (c : Settings) (s : List ℕ) (t : TypeData) where
+  pub record-class : (x : ClassType) (n : List ℕ) → t ≡ type.Class x → n ≡ nameAt s (x .name) → say (classText c (x .kind) n) ≡ say (recordText c s t)
+  unfolding recordText typeContents namedText
+  record-class x n e h = rw (e, h) refl
+
+  pub record-union : (x : UnionType) (n : List ℕ) → t ≡ type.Union x → n ≡ nameAt s (x .name) → say (behindWord c (bytes "union") n) ≡ say (recordText c s t)
+  unfolding recordText typeContents namedText behindWord worded
+  record-union x n e h = rw (e, h) refl
+
+  pub record-enum : (x : EnumerationType) (n : List ℕ) → t ≡ type.Enumeration x → n ≡ nameAt s (x .name) → say (behindWord c (bytes "enum") n) ≡ say (recordText c s t)
+  unfolding recordText typeContents namedText behindWord worded
+  record-enum x n e h = rw (e, h) refl
+
+  pub record-enumerate : (x : EnumerateType) (n : List ℕ) → t ≡ type.Enumerate x → n ≡ nameAt s (x .name) → say (behindWord c (bytes "enum class") n) ≡ say (recordText c s t)
+  unfolding recordText typeContents namedText behindWord worded
+  record-enumerate x n e h = rw (e, h) refl
+
+  pub record-unhandled : (k : ℕ) → t ≡ type.Unhandled k → say (unhandledType k) ≡ say (recordText c s t)
+  unfolding recordText typeContents namedText
+  record-unhandled k e = rw e refl
+
+-- The tags of the kinds that a text looks into.
+abbrev pub looked : List ℕ
+looked = 0 ∷ 1 ∷ 2 ∷ 3 ∷ 4 ∷ 5 ∷ 7 ∷ []
+
+pub record-none : (c : Settings) (s : List ℕ) (t : TypeData) → OneOf looked (tagOf the-type t) → say [] ≡ say (recordText c s t)
+unfolding recordText typeContents
+record-none c s (type.Primitive p) n = refl
+record-none c s (type.Modifier m) n = refl
+record-none c s (type.Pointer p) n = refl
+record-none c s (type.Procedure p) n = refl
+record-none c s (type.MemberFunction m) n = refl
+record-none c s (type.ArgumentList e) n = refl
+record-none c s (type.Enumerate e) n = absurd (miss looked 6 tt n)
+record-none c s (type.Array a) n = refl
+record-none c s (type.Class x) n = absurd (miss looked 8 tt n)
+record-none c s (type.Union u) n = absurd (miss looked 9 tt n)
+record-none c s (type.Enumeration e) n = absurd (miss looked 10 tt n)
+record-none c s (type.Unhandled k) n = absurd (miss looked 11 tt n)
+
+-- The signs behind a text, by its last byte.
+pub signs-behind-star : (c : Settings) (ls : List Level) (b n : ℕ) → b ≡ n → b ≡ 42 → say (levels c true true ls) ≡ say (levels c true (isSign n) ls)
+unfolding isSign
+signs-behind-star c ls b n e h = rw (eq-eqb n 42 (sym e ∙ h))
+
+pub signs-behind : (c : Settings) (ls : List Level) (b n : ℕ) → b ≡ n → (b ≡ 42 → ⊥) → say (levels c true (eqb b 38) ls) ≡ say (levels c true (isSign n) ls)
+unfolding isSign
+signs-behind c ls b n e h = rw (e, ne-eqb n 42 (rw e at h)) refl
