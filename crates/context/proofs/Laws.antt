@@ -1,10 +1,10 @@
 -- The laws of the stacks: one step of a search, a push, a change of the newest, and when a stack is full. Assumes nothing.
-use Prim.Native.Nat.{ℕ, suc, _+_, _-_, _<_, _≤_, min}
+use Prim.Native.Nat.{ℕ, suc, _+_, _-_, _*_, _/_, _%_, _<_, _≤_, min}
 use mathlib.Core.Path.{_≡_, refl, ap, sym, _∙_}
 use mathlib.Core.List.{List, [], _∷_, map}
 use mathlib.Core.Bool.{Bool, true, false, _||_}
-use lib.ListN.{length, set, drop, getD, length-set, length-drop, length-map, drop-of-length-le}
-use lib.Seq.{drop-cons, drop-set-lt, getD-set-same}
+use lib.ListN.{length, set, take, drop, getD, length-set, length-drop, length-map, drop-of-length-le}
+use lib.Seq.{drop-cons, drop-set-lt, getD-set-same, take-suc, take-suc-set, take-all}
 use lib.Dec.{eqb, leb}
 use native.Mathlib.Decide.{decLt}
 use native.Mathlib.Numerals.{add-one}
@@ -13,35 +13,20 @@ use borrow.Author.Tests.{eq-eqb, ne-eqb, lt-leb, le-leb}
 use Rattle.reading.specs.Trace.{Key, key}
 use Rattle.rules.specs.Text.{overPointee}
 use Rattle.context.specs.declared.levels.PtrAttributes.{PtrAttributes}
-use Rattle.context.specs.Context.{keys, hasIndex, entryNo, levelOf}
-
--- an index among indexes, whatever their ways
-unfoldable pub holds : ℕ → List ℕ → Bool
-holds i [] = false
-holds i (x ∷ l) = eqb x i || holds i l
-
-pub keys-hold : (w l : List ℕ) (i : ℕ) → length w ≡ length l → hasIndex i (keys w l) ≡ holds i l
-unfolding keys hasIndex holds
-keys-hold [] [] i h = refl
-keys-hold [] (x ∷ l) i h = absurd (omega arith)
-keys-hold (y ∷ w) [] i h = absurd (omega arith)
-keys-hold (y ∷ w) (x ∷ l) i h = ap (λ b. eqb x i || b) (keys-hold w l i (omega arith))
-
-pub drops-hold : (w l : List ℕ) (n i : ℕ) → length w ≡ length l → hasIndex i (keys (drop n w) (drop n l)) ≡ holds i (drop n l)
-drops-hold w l n i h = keys-hold (drop n w) (drop n l) i (simp length-drop (omega arith))
+use Rattle.context.specs.Context.{keyOf, keysOf, hasIndex, entryNo, levelOf}
 
 -- one step of a search
-pub holds-here : (l : List ℕ) (n i : ℕ) → n < length l → getD l n 0 ≡ i → holds i (drop n l) ≡ true
-unfolding holds
-holds-here l n i h e = rw (drop-cons l n 0 h) (simp (eq-eqb _ _ e))
+pub has-here : (l : List ℕ) (n i : ℕ) → n < length l → getD l n 0 % 4_294_967_296 ≡ i → hasIndex i (keysOf (drop n l)) ≡ true
+unfolding hasIndex keysOf
+has-here l n i h e = rw (drop-cons l n 0 h) (simp (eq-eqb _ _ e))
 
-pub holds-next : (l : List ℕ) (n i : ℕ) → n < length l → (getD l n 0 ≡ i → ⊥) → holds i (drop n l) ≡ holds i (drop (n + 1) l)
-unfolding holds
-holds-next l n i h e = rw (add-one, drop-cons l n 0 h) (simp (ne-eqb _ _ e))
+pub has-next : (l : List ℕ) (n i : ℕ) → n < length l → (getD l n 0 % 4_294_967_296 ≡ i → ⊥) → hasIndex i (keysOf (drop n l)) ≡ hasIndex i (keysOf (drop (n + 1) l))
+unfolding hasIndex keysOf
+has-next l n i h e = rw (add-one, drop-cons l n 0 h) (simp (ne-eqb _ _ e))
 
-pub holds-none : (l : List ℕ) (n i : ℕ) → length l ≤ n → holds i (drop n l) ≡ false
-unfolding holds
-holds-none l n i h = rw (drop-of-length-le l h)
+pub has-none : (l : List ℕ) (n i : ℕ) → length l ≤ n → hasIndex i (keysOf (drop n l)) ≡ false
+unfolding hasIndex keysOf
+has-none l n i h = rw (drop-of-length-le l h)
 
 -- a push
 pub drop-set : {A : Type 0} (l : List A) (n : ℕ) (x : A) → n < length l → drop n (set l n x) ≡ x ∷ drop (n + 1) l
@@ -55,50 +40,50 @@ drop-push l n x h k =
     let e : (n - 1) + 1 ≡ n = omega arith in
     drop-set l (n - 1) x (omega arith) ∙ (rw e)
 
--- a stack that starts behind its array is empty, as one that starts at its end
-drop-first : {A : Type 0} (l : List A) (n : ℕ) → drop (min n (length l)) l ≡ drop n l
-drop-first l n = by (decLt n (length l))
-  where
-    by : Dec (n < length l) → drop (min n (length l)) l ≡ drop n l
-    by (yes e) = let z : min n (length l) ≡ n = omega arith in rw z
-    by (no e) =
-        let z : length l ≤ min n (length l) = omega arith in
-        let y : length l ≤ n = omega arith in
-        rw (drop-of-length-le l z, drop-of-length-le l y)
+-- a key is packed and taken apart again
+packed : (w i : ℕ) → i < 4_294_967_296 → keyOf (w * 4_294_967_296 + i) ≡ key w i
+packed w i h =
+    let a : (w * 4_294_967_296 + i) / 4_294_967_296 ≡ w = omega arith in
+    let b : (w * 4_294_967_296 + i) % 4_294_967_296 ≡ i = omega arith in
+    rw (a, b)
 
-drop-push-first : {A : Type 0} (l : List A) (n m : ℕ) (x : A) → 0 < m → m ≡ min n (length l) → drop (m - 1) (set l (m - 1) x) ≡ x ∷ drop n l
-drop-push-first l n m x h e = drop-push l m x h (omega arith) ∙ (rw (e, drop-first l n))
+pub keys-push : (l m : List ℕ) (w i : ℕ) → i < 4_294_967_296 → m ≡ (w * 4_294_967_296 + i) ∷ l → keysOf m ≡ key w i ∷ keysOf l
+unfolding keysOf
+keys-push l m w i k e = rw (e, packed w i k)
 
-pub keys-push : (w l : List ℕ) (n m y x : ℕ) → 0 < m → m ≡ min n (length w) → m ≡ min n (length l)
-    → keys (drop (m - 1) (set w (m - 1) y)) (drop (m - 1) (set l (m - 1) x)) ≡ key y x ∷ keys (drop n w) (drop n l)
-unfolding keys
-keys-push w l n m y x h j k = rw (drop-push-first w n m y h j, drop-push-first l n m x h k)
+-- a list that is filled from another, one place further on
+pub filled-first : (l : List ℕ) (x : ℕ) → 0 < length l → take 1 (set l 0 x) ≡ x ∷ []
+filled-first [] x h = absurd (omega arith)
+filled-first (y ∷ l) x h = refl
+
+pub filled-next : (l s : List ℕ) (n x : ℕ) → n < length s → n + 1 < length l → take (n + 1) l ≡ x ∷ take n s → take (n + 1 + 1) (set l (n + 1) (getD s n 0)) ≡ x ∷ take (n + 1) s
+filled-next l s n x h k e =
+    let a : n + 1 + 1 ≡ suc (n + 1) = add-one (n + 1) in
+    let b : n + 1 ≡ suc n = add-one n in
+    rw a (take-suc-set l (n + 1) (getD s n 0) k ∙ (rw (e, b, take-suc s n 0 h)))
+
+pub filled-all : (l s : List ℕ) (n x : ℕ) → length s ≤ n → take (n + 1) l ≡ x ∷ take n s → take (n + 1) l ≡ x ∷ s
+filled-all l s n x h e = e ∙ ap (λ (t : List ℕ). x ∷ t) (take-all n s h)
 
 -- the number of an opening
-keys-length : (w l : List ℕ) → length w ≡ length l → length (keys w l) ≡ length l
-unfolding keys
-keys-length [] [] h = refl
-keys-length [] (x ∷ l) h = absurd (omega arith)
-keys-length (y ∷ w) [] h = absurd (omega arith)
-keys-length (y ∷ w) (x ∷ l) h = ap suc (keys-length w l (omega arith))
-
-drops-length : (w l : List ℕ) (n : ℕ) → length w ≡ length l → length (keys (drop n w) (drop n l)) ≡ length l - n
-drops-length w l n h = keys-length (drop n w) (drop n l) (simp length-drop (omega arith)) ∙ length-drop n l
+keys-length : (l : List ℕ) → length (keysOf l) ≡ length l
+unfolding keysOf
+keys-length l = length-map l keyOf
 
 pub entry-again : (o : List Key) (i : ℕ) → hasIndex i o ≡ true → 12 ≡ entryNo o i
 unfolding entryNo
 entry-again o i h = simp h
 
-pub entry-full : (w l : List ℕ) (n i : ℕ) → length w ≡ 96 → length l ≡ 96 → hasIndex i (keys (drop n w) (drop n l)) ≡ false → n ≡ 0 → 13 ≡ entryNo (keys (drop n w) (drop n l)) i
+pub entry-full : (l : List ℕ) (i : ℕ) → hasIndex i (keysOf l) ≡ false → 96 ≤ length l → 13 ≡ entryNo (keysOf l) i
 unfolding entryNo
-entry-full w l n i j k h e =
-    let m : 96 ≤ length (keys (drop n w) (drop n l)) = simp (drops-length w l n (omega arith)) (omega arith) in
+entry-full l i h e =
+    let m : 96 ≤ length (keysOf l) = simp (keys-length l) (omega arith) in
     simp (h, le-leb 96 _ m)
 
-pub entry-free : (w l : List ℕ) (n i : ℕ) → length w ≡ 96 → length l ≡ 96 → hasIndex i (keys (drop n w) (drop n l)) ≡ false → (n ≡ 0 → ⊥) → 0 ≡ entryNo (keys (drop n w) (drop n l)) i
+pub entry-free : (l : List ℕ) (i : ℕ) → hasIndex i (keysOf l) ≡ false → length l < 96 → 0 ≡ entryNo (keysOf l) i
 unfolding entryNo
-entry-free w l n i j k h e =
-    let m : length (keys (drop n w) (drop n l)) < 96 = simp (drops-length w l n (omega arith)) (omega arith) in
+entry-free l i h e =
+    let m : length (keysOf l) < 96 = simp (keys-length l) (omega arith) in
     simp (h, lt-leb 96 _ m)
 
 -- how many more levels of an array may follow

@@ -1,5 +1,5 @@
 -- What the values that are passed down stand for: settings, open keys, pointer levels, array levels.
-use Prim.Native.Nat.{ℕ, _+_, _≤_, _/_, _%_}
+use Prim.Native.Nat.{ℕ, _+_, _<_, _/_, _%_}
 use mathlib.Core.Path.{_≡_}
 use mathlib.Core.Bool.{Bool, true, false, _||_}
 use mathlib.Core.List.{List, [], _∷_, map}
@@ -15,7 +15,6 @@ use Rattle.context.specs.declared.flags.TypeFormatterFlags.{TypeFormatte
 use Rattle.context.specs.declared.flags.FlagsRead.{FlagsRead}
 use Rattle.context.specs.declared.flags.FlagsRead.the-variants.{Known, Refused}
 use Rattle.context.specs.declared.flags.Call.{Call}
-use Rattle.context.specs.declared.seen.Seen.{Seen}
 use Rattle.context.specs.declared.levels.PtrAttributes.{PtrAttributes}
 use Rattle.context.specs.declared.levels.Levels.{Levels}
 use Rattle.context.specs.declared.levels.Dimensions.{Dimensions}
@@ -35,32 +34,30 @@ settingsOf c = settings (c .flags .0) (c .size)
 unfoldable pub tableIn : List ℕ → List ℕ → Call → Table
 tableIn types ids c = tableOf types (c .types) ids (c .ids)
 
--- Ways and indexes side by side.
-unfoldable pub keys : List ℕ → List ℕ → List Key
-keys [] il = []
-keys (w ∷ wl) [] = []
-keys (w ∷ wl) (i ∷ il) = key w i ∷ keys wl il
+-- An open key, packed in one number: the way above the 32 bits of the index.
+abbrev pub keyOf : ℕ → Key
+keyOf x = key (x / 4_294_967_296) (x % 4_294_967_296)
 
 -- The open keys, the newest first.
-unfoldable pub keysOf : Seen → List Key
-keysOf o = keys (drop (o .left) (o .ways)) (drop (o .left) (o .indexes))
+unfoldable pub keysOf : List ℕ → List Key
+keysOf seen = map keyOf seen
 
 unfoldable pub hasIndex : ℕ → List Key → Bool
 hasIndex i [] = false
 hasIndex i (k ∷ o) = eqb (k .index) i || hasIndex i o
 
 -- What is held while a writer runs.
-unfoldable pub holding : Call → Seen → Held
-holding c o = held (c .chain) (keysOf o)
+unfoldable pub holding : Call → List ℕ → Held
+holding c seen = held (c .chain) (keysOf seen)
 
 -- The number of the refusal where an index is opened, and 0 where it may be.
 unfoldable pub entryNo : List Key → ℕ → ℕ
 entryNo o i = pick (hasIndex i o) 12 (pick (leb 96 (length o)) 13 0)
 
 -- What `entry` gives: the number, and that there is room where it is 0.
-pub record Entering (o : Seen) (i : ℕ) (r : ℕ) : Type 0 where
-  pub number : r ≡ entryNo (keysOf o) i
-  pub free : 1 ≤ o .left + r
+pub record Entering (seen : List ℕ) (i r : ℕ) : Type 0 where
+  pub number : r ≡ entryNo (keysOf seen) i
+  pub free : r ≡ 0 → length seen < 96
 
 -- The pointer levels, the innermost first.
 abbrev pub levelOf : PtrAttributes → Level

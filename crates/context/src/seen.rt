@@ -1,33 +1,18 @@
-// The indexes that are open, each with the way it came; the newest lies lowest.
+// The indexes that are open, each with the way it came, packed in one number; the newest comes first. A writer that opens an index has an array of 96 by
+// value, fills it with one more than it was lent, and lends that to what it calls: nothing is taken back when it ends.
 ghost use mathlib.Core.Path.{_≡_};
-ghost use mathlib.Core.List.{[], _∷_};
-ghost use Prim.Native.Nat.{_<_, min};
-ghost use Rattle.reading.specs.Trace.{key};
+ghost use mathlib.Core.List.{_∷_};
+ghost use Prim.Native.Nat.{_+_, _*_, _<_};
+ghost use lib.ListN.{length, take};
 ghost use Rattle.context.specs.Context.{keysOf, hasIndex, Entering};
 
-pub struct Seen {
-    pub indexes: [u32; 96],
-    pub ways: [u8; 96],
-    pub left: usize,
-}
-
-pub fn nothing() -> Seen
-    ensures { λ r. ⌜ (r .left ≡ 96) × (keysOf r ≡ []) ⌝ }
+fn has(seen: &[u64], index: u32) -> bool
+    ensures { λ r. ⌜ r ≡ hasIndex index (keysOf (now (seen .entry))) ⌝ }
 {
-    Seen {
-        indexes: [0; 96],
-        ways: [0; 96],
-        left: 96,
-    }
-}
-
-fn has(o: Seen, index: u32) -> bool
-    ensures { λ r. ⌜ r ≡ hasIndex index (keysOf o) ⌝ }
-{
-    let a = o.indexes;
-    let mut i = o.left;
-    while i < 96 {
-        if a[i] == index {
+    let wanted = index as u64;
+    let mut i = 0;
+    while i < seen.len() {
+        if seen[i] % 4_294_967_296 == wanted {
             return true;
         }
         i += 1;
@@ -36,39 +21,28 @@ fn has(o: Seen, index: u32) -> bool
 }
 
 // The number of the refusal where an index is opened, and 0 where it may be.
-pub fn entry(o: Seen, index: u32) -> u32
-    ensures { λ r. ⌜ Entering o index r ⌝ }
+pub fn entry(seen: &[u64], index: u32) -> u32
+    ensures { λ r. ⌜ Entering (now (seen .entry)) index r ⌝ }
 {
-    if has(o, index) {
+    if has(seen, index) {
         return 12;
     }
-    let left = o.left;
-    if left == 0 {
+    if seen.len() >= 96 {
         return 13;
     }
     0
 }
 
-// The first place of a stack; one that starts behind its array is empty.
-fn first(left: usize) -> usize
-    ensures { λ r. ⌜ r ≡ min left 96 ⌝ }
+// One more is open: a list of it and of those before it, and how many they are.
+pub fn insert(list: &mut [u64], seen: &[u64], way: u8, index: u32) -> usize
+    requires { ⌜ length (now seen) < length (now list) ⌝ }
+    ensures { λ r. ⌜ (length (now (list .exit)) ≡ length (now (list .entry))) × (r ≡ length (now (seen .entry)) + 1) × (take r (now (list .exit)) ≡ (way * 4_294_967_296 + index) ∷ now (seen .entry)) ⌝ }
 {
-    if left < 96 { left } else { 96 }
-}
-
-// One more is open.
-pub fn insert(o: Seen, way: u8, index: u32) -> Seen
-    requires { ⌜ 0 < o .left ⌝ }
-    ensures { λ r. ⌜ (r .left < o .left) × (r .left < 96) × (keysOf r ≡ key way index ∷ keysOf o) ⌝ }
-{
-    let at = first(o.left) - 1;
-    let mut a = o.indexes;
-    let mut w = o.ways;
-    a[at] = index;
-    w[at] = way;
-    Seen {
-        indexes: a,
-        ways: w,
-        left: at,
+    list[0] = (way as u64) * 4_294_967_296 + (index as u64);
+    let mut i = 0;
+    while i < seen.len() {
+        list[i + 1] = seen[i];
+        i += 1;
     }
+    i + 1
 }

@@ -1,46 +1,46 @@
 -- The invariant: the index is open if it is among those from i on. The measure is how many those are.
 -- Assumes nothing.
-use Prim.Native.Nat.{_-_}
-use mathlib.Core.Path.{_≡_, refl, _∙_}
-use lib.ListN.{length, drop}
-use Rattle.context.specs.Context.{keysOf}
-use Rattle.context.proofs.Laws.{holds, drops-hold, holds-here, holds-next, holds-none}
-use native.Mathlib.Omega.{arith}
 use borrow.Author.Needs.{needs}
+use native.Mathlib.Omega.{arith}
+use Prim.Native.Nat.{_-_}
+use mathlib.Core.Path.{_≡_, refl, sym, _∙_}
+use lib.ListN.{length, drop}
+use Rattle.context.specs.Context.{keysOf, hasIndex}
+use Rattle.context.proofs.Laws.{has-here, has-next, has-none}
 use Rattle.context.proofs.seen.has.Statement.{statement}
 use Rattle.context.proofs.seen.has.Tie as tie
+use Rattle.context.proofs.seen.has.Reads as reads
+use Rattle.context.proofs.seen.has.Lts as lts
 
 abbrev Inv-loop : tie.InvT-loop
-Inv-loop index a i₀ i = (length a ≡ 96) × (holds index (drop i₀ a) ≡ holds index (drop i a))
+Inv-loop seen index wanted i₀ i = hasIndex index (keysOf seen) ≡ hasIndex index (keysOf (drop i seen))
 
 abbrev μ-loop : tie.MeasureT-loop
-μ-loop index a i₀ i = 96 - i
+μ-loop seen index wanted i₀ i = length seen - i
 
 loop-holds : tie.Need-loop-holds Inv-loop μ-loop
-loop-holds c = (search needs, refl)
+loop-holds c = refl
 
 mul-if1 : tie.Need-mul-if1 Inv-loop μ-loop
-mul-if1 c = omega arith
+mul-if1 c = search needs
 
-array-read-if1 : tie.Need-array-read-if1 Inv-loop μ-loop
-array-read-if1 c = omega arith
+shared-slice-read-if1 : tie.Need-shared-slice-read-if1 Inv-loop μ-loop
+shared-slice-read-if1 c = search needs
 
 returns : tie.Need-returns Inv-loop μ-loop
-unfolding keysOf
-returns c = let m : length (c .before .before .before .before .args .o .ways) ≡ 96 = search needs in cc (drops-hold (c .before .before .before .before .args .o .ways) (c .before .before .before .before .args .o .indexes) (c .before .before .before .before .args .o .left) (c .before .before .before .before .args .index) (omega arith), holds-here (c .before .before .before .before .args .o .indexes) (c .before .before .loop .i) (c .before .before .before .before .args .index) (omega arith) (c .if1 .taken))
+returns c = sym (c .before .before .before .loop .inv ∙ has-here (c .before .before .before .before .args .seen .now) (c .before .before .before .loop .i) (c .before .before .before .before .args .index) (omega arith) (cc))
 
 add-i : tie.Need-add-i Inv-loop μ-loop
-add-i c = omega arith
+add-i c = search needs
 
 loop-less : tie.Need-loop-less Inv-loop μ-loop
-loop-less c = omega arith
+loop-less c = search needs
 
 loop-again : tie.Need-loop-again Inv-loop μ-loop
-loop-again c = (cc, c .before .before .loop .inv .1 ∙ holds-next (c .before .before .before .before .args .o .indexes) (c .before .before .loop .i) (c .before .before .before .before .args .index) (omega arith) (c .if1 .left))
+loop-again c = c .before .before .before .loop .inv ∙ has-next (c .before .before .before .before .args .seen .now) (c .before .before .before .loop .i) (c .before .before .before .before .args .index) (omega arith) (λ e. c .if1 .left (cc))
 
 returns-2 : tie.Need-returns-2 Inv-loop μ-loop
-unfolding keysOf
-returns-2 c = let m : length (c .before .before .before .args .o .ways) ≡ 96 = search needs in cc (drops-hold (c .before .before .before .args .o .ways) (c .before .before .before .args .o .indexes) (c .before .before .before .args .o .left) (c .before .before .before .args .index) (omega arith), holds-none (c .before .before .before .args .o .indexes) (c .before .loop .i) (c .before .before .before .args .index) (omega arith))
+returns-2 c = sym (c .before .loop .inv ∙ has-none (c .before .before .args .seen .now) (c .before .loop .i) (c .before .before .args .index) (omega arith))
 
 pub has-spec : {M : Type 1} → statement M
 has-spec =
@@ -50,7 +50,7 @@ has-spec =
     μ-loop
     loop-holds
     mul-if1
-    array-read-if1
+    shared-slice-read-if1
     returns
     add-i
     loop-less
