@@ -2,9 +2,10 @@
 use Prim.Native.Nat.{ℕ, _/_, _%_}
 use mathlib.Core.List.{List}
 use lib.Dec.{leb, ltb}
+use lib.ListN.{take}
 use Rattle.wire.specs.Field.{pick}
 use Rattle.primitives.specs.Primitive.{primitives, firstOf}
-use Rattle.streams.specs.Stream.{lookUp, part}
+use Rattle.streams.specs.Stream.{recordAt, lookUp, part}
 use Rattle.codeview.specs.Record.{typeOf}
 use Rattle.codeview.specs.IdRecord.{idOf}
 use Rattle.streams.specs.declared.refusal.Refusal.the-variants.{Malformed, Missing, CrossModule}
@@ -33,6 +34,13 @@ readType s t index =
     (λ kind start end. typeOf (Refused (Malformed index)) start kind (part s start end))
     (Refused (Missing index))
     (Refused (CrossModule index)))
+
+-- The same where the place of the index's record is known.
+unfoldable pub typeIn : List ℕ → Stream → ℕ → ℕ → TypeRead
+typeIn s t at index =
+    recordAt (take (t .stop) s) at
+    (λ kind start end. typeOf (Refused (Malformed index)) start kind (part s start end))
+    (Refused (Missing index))
 
 -- What an id index stands for in a checked stream.
 unfoldable pub readId : List ℕ → Stream → ℕ → IdRead

@@ -3,7 +3,7 @@ ghost use mathlib.Core.Path.{_≡_};
 ghost use Prim.Native.Nat.{_+_, _/_, _%_, _<_, _^_};
 ghost use lib.ListN.{length};
 ghost use Rattle.codeview.specs.Record.{pointerMode, containing, memberClass, modifierOf, pointerOf, procedureOf, memberFunctionOf, argumentListOf, enumerateOf, arrayOf, classOf, unionOf, enumerationOf, typeOf};
-ghost use Rattle.codeview.specs.Read.{primitiveOf, readType};
+ghost use Rattle.codeview.specs.Read.{primitiveOf, readType, typeIn};
 ghost use Rattle.wire.specs.declared.field.Field32.the-variants as f32;
 ghost use Rattle.streams.specs.declared.refusal.Refusal.the-variants.{Malformed};
 ghost use Rattle.codeview.specs.declared.record.TypeRead.the-variants.{Refused};
@@ -424,5 +424,18 @@ pub fn type_at(s: &[u8], stream: Stream, index: TypeIndex) -> TypeRead
         Found::Record { kind, start, end } => decode_type(&s[start..end], start, kind, i),
         Found::Missing => TypeRead::Refused(Refusal::Missing(i)),
         Found::CrossModule => TypeRead::Refused(Refusal::CrossModule(i)),
+    }
+}
+
+// The same where the place of the index's record is known.
+pub fn type_in(s: &[u8], stream: Stream, at: usize, index: TypeIndex) -> TypeRead
+    ensures { λ r. ⌜ r ≡ typeIn (now (s .entry)) stream at (index .0) ⌝ }
+{
+    let i = index.0;
+    let records = streams::stream::records_of(s, stream);
+    match streams::stream::record_at(records, at) {
+        Found::Record { kind, start, end } => decode_type(&s[start..end], start, kind, i),
+        Found::Missing => TypeRead::Refused(Refusal::Missing(i)),
+        Found::CrossModule => TypeRead::Refused(Refusal::Missing(i)),
     }
 }

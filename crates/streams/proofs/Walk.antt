@@ -129,6 +129,12 @@ passed-more (suc n) s at k z h =
     let e : suc n - 1 ≡ n = omega arith in
     simp e (more n s at k z)
 
+-- A walk of one record more ends with that record.
+pub passed-last : {A : Type 0} (n : ℕ) (s : List ℕ) (at : ℕ) (k : ℕ → A) (z : A) → passed (suc n) s at k z ≡ passed n s at (λ at. behind s at k z) z
+unfolding passed
+passed-last zero s at k z = refl
+passed-last {A} (suc n) s at k z = ap (λ (g : ℕ → A). behind s at g z) (fun-ext (λ next. passed-last n s next k z))
+
 -- Whatever holds of every answer that a record inside the stream can give, and of the two others, holds of what follows from an index.
 lookUp-all : {A : Type 0} (P : A → Type 0) (s : List ℕ) (t : Stream) (i : ℕ) (k : ℕ → ℕ → ℕ → A) (m x : A) → ((kind start end : ℕ) → start ≤ end → end ≤ length s → P (k kind start end)) → P m → P x → P (lookUp s t i k m x)
 unfolding lookUp
@@ -217,6 +223,17 @@ byFound CrossModule k m x = x
 module _ (s : List ℕ) (t : Stream) (i : ℕ) {r : Found} (e : r ≡ lookUp s t i Record Missing CrossModule) where
   pub look-by : {v : Found} → r ≡ v → {A : Type 0} (k : ℕ → ℕ → ℕ → A) (m x : A) → lookUp s t i k m x ≡ byFound v k m x
   look-by h k m x = sym (map-look (λ (r : Found). byFound r k m x) s t i Record Missing CrossModule) ∙ ap (λ (r : Found). byFound r k m x) (sym e ∙ h)
+
+-- What the record at a place says of all that goes by it, and where its fields lie.
+module _ (s : List ℕ) (at : ℕ) {r : Found} (e : r ≡ recordAt s at Record Missing) where
+  pub record-by : {v : Found} → r ≡ v → {A : Type 0} (k : ℕ → ℕ → ℕ → A) (m : A) → recordAt s at k m ≡ byFound v k m m
+  record-by h k m = sym (map-record (λ (r : Found). byFound r k m m) s at Record Missing) ∙ ap (λ (r : Found). byFound r k m m) (sym e ∙ h)
+
+  pub record-within : (kind start end : ℕ) → r ≡ Record kind start end → (start ≤ end) × (end ≤ length s)
+  record-within kind start end h =
+      recordAt-all (λ (r : Found). r ≡ Record kind start end → (start ≤ end) × (end ≤ length s)) s at Record Missing
+      (λ kd a b i j q. let v : a ≡ start = cc in let w : b ≡ end = cc in (omega arith, omega arith))
+      (λ q. let w : _≡_ {A = ℕ} 0 1 = cc in absurd (omega arith)) (sym e ∙ h)
 
 -- A part inside a stream ends where it was asked to.
 pub part-end : (s : List ℕ) (start end : ℕ) → (start ≤ end) × (end ≤ length s) → start + length (take (end - start) (drop start s)) ≡ end

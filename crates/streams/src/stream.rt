@@ -36,7 +36,7 @@ enum Head {
 }
 
 // A place that a walk over records came to, or that it went past their end.
-enum Place {
+pub enum Place {
     At(usize),
     Beyond,
 }
@@ -88,7 +88,7 @@ fn header_of(s: &[u8]) -> Head
 }
 
 // The place behind the record at a place.
-fn behind_record(s: &[u8], at: usize) -> Place
+pub fn behind_record(s: &[u8], at: usize) -> Place
     ensures { λ r. ⌜ r ≡ behind (now (s .entry)) at At Beyond ⌝ }
 {
     let Field16::Value(len) = wire::field::u16_at(s, at) else {
@@ -106,7 +106,7 @@ fn behind_record(s: &[u8], at: usize) -> Place
 }
 
 // The place behind `count` records from a place on.
-fn behind_records(s: &[u8], from: usize, count: u32) -> Place
+pub fn behind_records(s: &[u8], from: usize, count: u32) -> Place
     ensures { λ r. ⌜ r ≡ passed count (now (s .entry)) from At Beyond ⌝ }
 {
     let mut at = from;
@@ -144,7 +144,8 @@ pub fn check_stream(s: &[u8], which: StreamKind) -> StreamCheck
     }
 }
 
-fn record_at(s: &[u8], at: usize) -> Found
+// The record at a place.
+pub fn record_at(s: &[u8], at: usize) -> Found
     ensures { λ r. ⌜ r ≡ recordAt (now (s .entry)) at found.Record found.Missing ⌝ }
 {
     let Place::At(end) = behind_record(s, at) else {
@@ -166,6 +167,14 @@ fn shorter(a: usize, b: usize) -> usize
     if a < b { a } else { b }
 }
 
+// The part of a stream where its records are: what is there of it.
+pub fn records_of<'a>(s: &'a [u8], stream: Stream) -> &'a [u8]
+    ensures { λ r. ⌜ now (r) ≡ take (stream .stop) (now (s .entry)) ⌝ }
+{
+    let stop = shorter(stream.stop, s.len());
+    &s[..stop]
+}
+
 // The record of an index of a checked stream.
 pub fn look_up(s: &[u8], stream: Stream, index: u32) -> Found
     ensures { λ r. ⌜ r ≡ lookUp (now (s .entry)) stream index found.Record found.Missing found.CrossModule ⌝ }
@@ -180,8 +189,7 @@ pub fn look_up(s: &[u8], stream: Stream, index: u32) -> Found
     if stream.end <= index {
         return Found::Missing;
     }
-    let stop = shorter(stream.stop, s.len());
-    let records = &s[..stop];
+    let records = records_of(s, stream);
     let Place::At(at) = behind_records(records, 56, index - first) else {
         return Found::Missing;
     };

@@ -1,12 +1,9 @@
--- Each return is a case of the definition; a part up to a stop past the end is the whole.
+-- Each return is a case of the definition.
 -- Assumes nothing.
-use mathlib.Core.Path.{sym, _∙_}
-use lib.Seq.{length-take-le}
+use borrow.Author.Needs.{needs}
 use borrow.Author.Tests.{lt-leb, le-leb, lt-ltb, le-ltb}
 use Rattle.streams.specs.Stream.{lookUp}
-use Rattle.streams.proofs.Walk.{passed-at, passed-beyond, take-shorter}
-use native.Mathlib.Omega.{arith}
-use borrow.Author.Needs.{needs}
+use Rattle.streams.proofs.Walk.{passed-at, passed-beyond}
 use Rattle.streams.proofs.stream.look_up.Statement.{statement}
 use Rattle.streams.proofs.stream.look_up.Tie as tie
 
@@ -22,11 +19,8 @@ returns-3 : tie.Need-returns-3
 unfolding lookUp
 returns-3 c = rw (lt-leb _ _ (c .before .before .before .if1 .left), le-ltb _ _ (c .before .before .if2 .left), le-leb _ _ (c .if3 .taken))
 
-shorter-requires : tie.Need-shorter-requires
-shorter-requires c κs = search needs
-
-slice-aggregate-records : tie.Need-slice-aggregate-records
-slice-aggregate-records c = sym (length-take-le _ _ (omega arith))
+records-of-requires : tie.Need-records-of-requires
+records-of-requires c κs = search needs
 
 behind-records-requires : tie.Need-behind-records-requires
 behind-records-requires c κs = search needs
@@ -39,14 +33,14 @@ enum-told c = search needs
 
 returns-4 : tie.Need-returns-4
 unfolding lookUp
-returns-4 c = rw (lt-leb _ _ (c .before .before .before .before .before .before .before .before .if1 .left), le-ltb _ _ (c .before .before .before .before .before .before .before .if2 .left), lt-leb _ _ (c .before .before .before .before .before .if3 .left), ← take-shorter, ← c .before .before .before .before .shorter .ensures, passed-beyond _ _ _ (c .before .before .behind-records .ensures) (c .enum-told .given .1))
+returns-4 c = rw (lt-leb _ _ (c .before .before .before .before .before .before .before .if1 .left), le-ltb _ _ (c .before .before .before .before .before .before .if2 .left), lt-leb _ _ (c .before .before .before .before .if3 .left), ← c .before .before .before .records-of .ensures, passed-beyond _ _ _ (c .before .before .behind-records .ensures) (c .enum-told .given .1))
 
 record-at-requires : tie.Need-record-at-requires
 record-at-requires c κs = search needs
 
 returns-5 : tie.Need-returns-5
 unfolding lookUp
-returns-5 c = rw (lt-leb _ _ (c .before .before .before .before .before .before .before .before .before .before .if1 .left), le-ltb _ _ (c .before .before .before .before .before .before .before .before .before .if2 .left), lt-leb _ _ (c .before .before .before .before .before .before .before .if3 .left), ← take-shorter, ← c .before .before .before .before .before .before .shorter .ensures, passed-at _ _ _ (c .before .before .before .before .behind-records .ensures) _ (c .before .before .at .given .1), c .record-at .ensures)
+returns-5 c = rw (lt-leb _ _ (c .before .before .before .before .before .before .before .before .before .if1 .left), le-ltb _ _ (c .before .before .before .before .before .before .before .before .if2 .left), lt-leb _ _ (c .before .before .before .before .before .before .if3 .left), ← c .before .before .before .before .before .records-of .ensures, passed-at _ _ _ (c .before .before .before .before .behind-records .ensures) _ (c .before .before .at .given .1), c .record-at .ensures)
 
 pub look-up-spec : {M : Type 1} → statement M
 look-up-spec =
@@ -55,8 +49,7 @@ look-up-spec =
     returns
     returns-2
     returns-3
-    shorter-requires
-    slice-aggregate-records
+    records-of-requires
     behind-records-requires
     enum-known-at
     enum-told
