@@ -1,0 +1,34 @@
+-- The walk of a task and of a rule, over what the writers are given.
+use Prim.Native.Nat.{ℕ}
+use mathlib.Core.Bool.{Bool, true}
+use mathlib.Core.List.{List}
+use Rattle.streams.specs.declared.refusal.Refusal.{Refusal}
+use Rattle.codeview.specs.declared.record.MemberFunctionType.{MemberFunctionType}
+use Rattle.reading.specs.Trace.{Trace, after}
+use Rattle.rules.specs.Flags.{Settings}
+use Rattle.rules.specs.Record.{Record, Method}
+use Rattle.rules.specs.Text.{Level, levels, endsSigned}
+use Rattle.rules.specs.Rules.{Task, Rule, texted, typeText, walked, ruled}
+use Rattle.context.specs.declared.flags.Call.{Call}
+use Rattle.context.specs.Context.{settingsOf, tableIn, holding}
+
+abbrev pub walking : List ℕ → List ℕ → Call → List ℕ → Task → Trace Refusal
+walking types ids call seen x = walked (settingsOf call) (tableIn types ids call) (holding call seen) x
+
+abbrev pub ruling : List ℕ → List ℕ → Call → List ℕ → Rule → Trace Refusal
+ruling types ids call seen p = ruled (settingsOf call) (tableIn types ids call) (holding call seen) p
+
+-- A method as the rules see it.
+abbrev pub methodOf : MemberFunctionType → Method
+methodOf m =
+    record {
+      result = m .result .0;
+      class = m .class .0;
+      this = m .this .0;
+      constructor = m .constructor;
+      list = m .arguments .0;
+    }
+
+-- A type that is neither method nor procedure, under the levels of its pointers (the last case of `pointed`).
+abbrev pub behind : Settings → List Level → Record → Rule
+behind c ls r = after (texted (typeText c r)) (λ bs. levels c true (endsSigned bs) ls)

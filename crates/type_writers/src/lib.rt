@@ -1,0 +1,560 @@
+// The text of a type index. The writers of types, pointers, methods and arguments call each other, and end because each index that is opened is one of at
+// most 96. A writer that is given a stopped pen returns at once.
+ghost use mathlib.Core.Path.{_≡_};
+ghost use Prim.Native.Nat.{_+_, _-_, _≤_, _<_};
+ghost use lib.ListN.{length};
+ghost use mathlib.Core.Bool.{false};
+ghost use mathlib.Core.List.{[], _∷_};
+ghost use Rattle.rules.specs.Text.{level};
+ghost use Rattle.rules.specs.Record.{method, procedure, arguments, typeContents, numbersAt};
+ghost use Rattle.rules.specs.Rules.{byItself, target, targetOfModifier, modified, element, texted, typeText, pointed, result, methodArguments, methodList, entries};
+ghost use Rattle.pen.specs.Page.{page, Wrote};
+ghost use Rattle.context.specs.Context.{settingsOf, tableIn, levelsOf};
+ghost use Rattle.type_writers.specs.Walking.{walking, ruling, methodOf, behind};
+use arrays::ArrayEnd;
+use arrays::get_array_info;
+use codeview::index::TypeIndex;
+use codeview::record::ArrayType;
+use codeview::record::Entries;
+use codeview::record::MemberFunctionType;
+use codeview::record::PointerMode;
+use codeview::record::ProcedureType;
+use codeview::record::TypeData;
+use codeview::record::TypeRead;
+use codeview::types::type_at;
+use context::flags::Call;
+use context::levels::Levels;
+use context::levels::PtrAttributes;
+use context::levels::no_levels;
+use context::levels::over_pointee;
+use context::levels::push_level;
+use context::seen::entry;
+use context::seen::insert;
+use methods::ThisRead;
+use methods::check_ptr_class;
+use parts::attributes::emit_attributes;
+use parts::brackets::emit_brackets;
+use parts::named::emit_primitive;
+use parts::settings::no_arguments;
+use parts::settings::text_if;
+use pen::Pen;
+use pieces::both;
+use pieces::either;
+use pieces::emit_attributes_since;
+use pieces::emit_comma;
+use pieces::emit_record;
+use pieces::entry_at;
+use pieces::hides_return;
+use pieces::is_void;
+use sizes::SizeRead;
+use sizes::get_type_size;
+use streams::refusal::Refusal;
+use writers::marks::mark;
+use writers::marks::marked;
+
+// A result and a space; nothing where there is none to write.
+pub fn emit_return_type(
+    types: &[u8],
+    ids: &[u8],
+    out: &mut [u8],
+    p: Pen,
+    call: Call,
+    seen: &[u64],
+    none: bool,
+    index: TypeIndex,
+) -> Pen
+    ensures { λ r. ⌜ Wrote (page (now (out .entry)) p) (ruling (now (types .entry)) (now (ids .entry)) call (now (seen .entry)) (result (settingsOf call) none (index .0))) (page (now (out .exit)) r) ⌝ }
+{
+    if none {
+        return p;
+    }
+    let a = emit_type_index(types, ids, out, p, call, seen, index);
+    pen::text(out, a, b" ")
+}
+
+// A method's arguments: its list is opened, then read, then the this pointer is looked at, then all is written.
+pub fn emit_method_args(
+    types: &[u8],
+    ids: &[u8],
+    out: &mut [u8],
+    p: Pen,
+    call: Call,
+    seen: &[u64],
+    m: MemberFunctionType,
+    closes: bool,
+) -> Pen
+    ensures { λ r. ⌜ Wrote (page (now (out .entry)) p) (ruling (now (types .entry)) (now (ids .entry)) call (now (seen .entry)) (methodArguments (settingsOf call) (methodOf m) closes)) (page (now (out .exit)) r) ⌝ }
+{
+    if no_arguments(call) {
+        return p;
+    }
+    if pen::is_idle(p) {
+        return p;
+    }
+    let index = m.arguments;
+    let nr = entry(seen, index.0);
+    if nr != 0 {
+        return pen::bar(out, p, nr == 12, index.0);
+    }
+    let mut list = [0u64; 96];
+    let n = insert(&mut list, seen, 5, index.0);
+    let q = pen::tick(out, p);
+    let stream = call.types;
+    match type_at(types, stream, index) {
+        TypeRead::Good(t) => {
+            let TypeData::ArgumentList(e) = t else {
+                return pen::refuse(out, q, Refusal::ArgumentTypeNotArgumentList(index.0));
+            };
+            emit_args(types, ids, out, q, call, &list[..n], m, e, closes)
+        }
+        TypeRead::Refused(f) => pen::unread(out, q, f),
+    }
+}
+
+// A method's arguments, its list read: a this pointer that is not one to the class is the first.
+fn emit_args(
+    types: &[u8],
+    ids: &[u8],
+    out: &mut [u8],
+    p: Pen,
+    call: Call,
+    seen: &[u64],
+    m: MemberFunctionType,
+    e: Entries,
+    closes: bool,
+) -> Pen
+    ensures { λ r. ⌜ Wrote (page (now (out .entry)) p) (ruling (now (types .entry)) (now (ids .entry)) call (now (seen .entry)) (methodList (settingsOf call) (tableIn (now (types .entry)) (now (ids .entry)) call) (methodOf m) closes (arguments (numbersAt (now (types .entry)) (e .start) (e .count))))) (page (now (out .exit)) r) ⌝ }
+{
+    let stream = call.types;
+    let this = m.this;
+    let class = m.class;
+    match check_ptr_class(types, stream, this, class) {
+        ThisRead::Given(constant) => {
+            let shut = both(closes, constant);
+            let a = pen::text(out, p, b"(");
+            let b = emit_arg_list(types, ids, out, a, call, seen, false, e);
+            let c = pen::text(out, b, b")");
+            text_if(out, c, shut, b" const")
+        }
+        ThisRead::Other => {
+            let a = pen::text(out, p, b"(");
+            let b = emit_type_index(types, ids, out, a, call, seen, this);
+            let c = emit_arg_list(types, ids, out, b, call, seen, true, e);
+            pen::text(out, c, b")")
+        }
+        ThisRead::Refused(f) => pen::unread(out, p, f),
+    }
+}
+
+// A pointer to a method.
+fn emit_member_ptr(
+    types: &[u8],
+    ids: &[u8],
+    out: &mut [u8],
+    p: Pen,
+    call: Call,
+    seen: &[u64],
+    levels: Levels,
+    m: MemberFunctionType,
+) -> Pen
+    ensures { λ r. ⌜ Wrote (page (now (out .entry)) p) (ruling (now (types .entry)) (now (ids .entry)) call (now (seen .entry)) (pointed (settingsOf call) (levelsOf levels) (method (methodOf m)))) (page (now (out .exit)) r) ⌝ }
+{
+    let result = m.result;
+    let class = m.class;
+    let a = emit_return_type(types, ids, out, p, call, seen, m.constructor, result);
+    let b = pen::text(out, a, b"(");
+    let c = emit_type_index(types, ids, out, b, call, seen, class);
+    let d = emit_attributes(out, c, call, levels, false, false);
+    let e = pen::text(out, d, b")");
+    emit_method_args(types, ids, out, e, call, seen, m, false)
+}
+
+// A pointer to a procedure.
+fn emit_proc_ptr(
+    types: &[u8],
+    ids: &[u8],
+    out: &mut [u8],
+    p: Pen,
+    call: Call,
+    seen: &[u64],
+    levels: Levels,
+    x: ProcedureType,
+) -> Pen
+    ensures { λ r. ⌜ Wrote (page (now (out .entry)) p) (ruling (now (types .entry)) (now (ids .entry)) call (now (seen .entry)) (pointed (settingsOf call) (levelsOf levels) (procedure (x .result .0) (x .constructor) (x .arguments .0)))) (page (now (out .exit)) r) ⌝ }
+{
+    let result = x.result;
+    let list = x.arguments;
+    let none = is_void(x.constructor, result);
+    let a = emit_return_type(types, ids, out, p, call, seen, none, result);
+    let b = pen::text(out, a, b"(");
+    let c = emit_attributes(out, b, call, levels, false, false);
+    let d = pen::text(out, c, b")");
+    let e = pen::text(out, d, b"(");
+    let f = emit_type_index(types, ids, out, e, call, seen, list);
+    pen::text(out, f, b")")
+}
+
+// A pointer to any other type: its text, then the signs.
+fn emit_other_ptr(
+    types: &[u8],
+    ids: &[u8],
+    out: &mut [u8],
+    p: Pen,
+    call: Call,
+    seen: &[u64],
+    levels: Levels,
+    t: TypeData,
+) -> Pen
+    requires { ⌜ 1 ≤ length (now seen) ⌝ }
+    ensures { λ r. ⌜ Wrote (page (now (out .entry)) p) (ruling (now (types .entry)) (now (ids .entry)) call (now (seen .entry)) (behind (settingsOf call) (levelsOf levels) (typeContents (now (types .entry)) t))) (page (now (out .exit)) r) ⌝ }
+{
+    let start = p.at;
+    let q = emit_type(types, ids, out, p, call, seen, t);
+    emit_attributes_since(out, q, call, levels, start)
+}
+
+// What is under pointers, by its kind.
+fn emit_ptr_helper(
+    types: &[u8],
+    ids: &[u8],
+    out: &mut [u8],
+    p: Pen,
+    call: Call,
+    seen: &[u64],
+    levels: Levels,
+    t: TypeData,
+) -> Pen
+    requires { ⌜ 1 ≤ length (now seen) ⌝ }
+    ensures { λ r. ⌜ Wrote (page (now (out .entry)) p) (ruling (now (types .entry)) (now (ids .entry)) call (now (seen .entry)) (pointed (settingsOf call) (levelsOf levels) (typeContents (now (types .entry)) t))) (page (now (out .exit)) r) ⌝ }
+{
+    match t {
+        TypeData::MemberFunction(m) => emit_member_ptr(types, ids, out, p, call, seen, levels, m),
+        TypeData::Procedure(x) => emit_proc_ptr(types, ids, out, p, call, seen, levels, x),
+        _ => emit_other_ptr(types, ids, out, p, call, seen, levels, t),
+    }
+}
+
+// A pointer's target, under the levels so far: another pointer or a modifier goes on.
+fn emit_ptr(
+    types: &[u8],
+    ids: &[u8],
+    out: &mut [u8],
+    p: Pen,
+    call: Call,
+    seen: &[u64],
+    levels: Levels,
+    index: TypeIndex,
+) -> Pen
+    requires { ⌜ (96 ≤ levels .left + length (now seen)) × (levels .left ≤ 96) ⌝ }
+    ensures { λ r. ⌜ Wrote (page (now (out .entry)) p) (walking (now (types .entry)) (now (ids .entry)) call (now (seen .entry)) (target (index .0) (levelsOf levels))) (page (now (out .exit)) r) ⌝ }
+{
+    if pen::is_idle(p) {
+        return p;
+    }
+    let nr = entry(seen, index.0);
+    if nr != 0 {
+        return pen::bar(out, p, nr == 12, index.0);
+    }
+    let mut list = [0u64; 96];
+    let n = insert(&mut list, seen, 2, index.0);
+    let q = pen::tick(out, p);
+    let stream = call.types;
+    match type_at(types, stream, index) {
+        TypeRead::Good(t) => match t {
+            TypeData::Pointer(x) => {
+                let mode = x.mode;
+                let under = x.underlying;
+                let further = aim(levels, x.constant, mode);
+                emit_ptr(types, ids, out, q, call, &list[..n], further, under)
+            }
+            TypeData::Modifier(m) => {
+                let under = m.underlying;
+                let over = over_pointee(levels, m.constant);
+                emit_mod_ptr(types, ids, out, q, call, &list[..n], over, under)
+            }
+            _ => emit_ptr_helper(types, ids, out, q, call, &list[..n], levels, t),
+        },
+        TypeRead::Refused(f) => pen::unread(out, q, f),
+    }
+}
+
+// The target of a pointer's modifier.
+fn emit_mod_ptr(
+    types: &[u8],
+    ids: &[u8],
+    out: &mut [u8],
+    p: Pen,
+    call: Call,
+    seen: &[u64],
+    levels: Levels,
+    index: TypeIndex,
+) -> Pen
+    requires { ⌜ (96 ≤ levels .left + length (now seen)) × (levels .left ≤ 96) ⌝ }
+    ensures { λ r. ⌜ Wrote (page (now (out .entry)) p) (walking (now (types .entry)) (now (ids .entry)) call (now (seen .entry)) (targetOfModifier (index .0) (levelsOf levels))) (page (now (out .exit)) r) ⌝ }
+{
+    if pen::is_idle(p) {
+        return p;
+    }
+    let nr = entry(seen, index.0);
+    if nr != 0 {
+        return pen::bar(out, p, nr == 12, index.0);
+    }
+    let mut list = [0u64; 96];
+    let n = insert(&mut list, seen, 3, index.0);
+    let q = pen::tick(out, p);
+    let stream = call.types;
+    match type_at(types, stream, index) {
+        TypeRead::Good(t) => match t {
+            TypeData::Pointer(x) => {
+                let mode = x.mode;
+                let under = x.underlying;
+                let further = aim(levels, x.constant, mode);
+                emit_ptr(types, ids, out, q, call, &list[..n], further, under)
+            }
+            _ => emit_ptr_helper(types, ids, out, q, call, &list[..n], levels, t),
+        },
+        TypeRead::Refused(f) => pen::unread(out, q, f),
+    }
+}
+
+// The levels of an array and the size of its base come first, then the base, then the levels in brackets.
+fn emit_array(
+    types: &[u8],
+    ids: &[u8],
+    out: &mut [u8],
+    p: Pen,
+    call: Call,
+    seen: &[u64],
+    x: ArrayType,
+) -> Pen
+    requires { ⌜ 1 ≤ length (now seen) ⌝ }
+    ensures { λ r. ⌜ Wrote (page (now (out .entry)) p) (walking (now (types .entry)) (now (ids .entry)) call (now (seen .entry)) (element (x .element .0) (x .size ∷ []))) (page (now (out .exit)) r) ⌝ }
+{
+    let under = x.element;
+    let info = get_array_info(types, call, under, x.size);
+    let end = info.end;
+    let base = info.base;
+    let sizes = info.sizes;
+    match end {
+        ArrayEnd::Base(t) => {
+            match get_type_size(types, call, base, 0) {
+                SizeRead::Bytes(size) => {
+                    let q = emit_type(types, ids, out, p, call, seen, t);
+                    emit_brackets(out, q, sizes, size)
+                }
+                SizeRead::TooLong(index) => pen::too_long(out, p, index),
+            }
+        }
+        ArrayEnd::TooLong => pen::too_long(out, p, base.0),
+        ArrayEnd::Refused(f) => pen::unread(out, p, f),
+    }
+}
+
+// Any other modifier's target: a pointer takes the const, a primitive leads with it, any other type has it before its own text.
+fn emit_modifier(
+    types: &[u8],
+    ids: &[u8],
+    out: &mut [u8],
+    p: Pen,
+    call: Call,
+    seen: &[u64],
+    constant: bool,
+    index: TypeIndex,
+) -> Pen
+    ensures { λ r. ⌜ Wrote (page (now (out .entry)) p) (walking (now (types .entry)) (now (ids .entry)) call (now (seen .entry)) (modified (index .0) constant)) (page (now (out .exit)) r) ⌝ }
+{
+    if pen::is_idle(p) {
+        return p;
+    }
+    let nr = entry(seen, index.0);
+    if nr != 0 {
+        return pen::bar(out, p, nr == 12, index.0);
+    }
+    let mut list = [0u64; 96];
+    let n = insert(&mut list, seen, 4, index.0);
+    let q = pen::tick(out, p);
+    let stream = call.types;
+    match type_at(types, stream, index) {
+        TypeRead::Good(t) => match t {
+            TypeData::Pointer(x) => {
+                let mode = x.mode;
+                let under = x.underlying;
+                let first = aim(no_levels(), either(x.constant, constant), mode);
+                emit_ptr(types, ids, out, q, call, &list[..n], first, under)
+            }
+            TypeData::Primitive(x) => emit_primitive(out, q, call, constant, x.code, x.indirection),
+            _ => {
+                let a = text_if(out, q, constant, b"const ");
+                emit_type(types, ids, out, a, call, &list[..n], t)
+            }
+        },
+        TypeRead::Refused(f) => pen::unread(out, q, f),
+    }
+}
+
+// The entries of a list by themselves, a comma before each but the first, or before all.
+fn emit_arg_list(
+    types: &[u8],
+    ids: &[u8],
+    out: &mut [u8],
+    p: Pen,
+    call: Call,
+    seen: &[u64],
+    comma: bool,
+    e: Entries,
+) -> Pen
+    ensures { λ r. ⌜ Wrote (page (now (out .entry)) p) (ruling (now (types .entry)) (now (ids .entry)) call (now (seen .entry)) (entries (settingsOf call) comma (numbersAt (now (types .entry)) (e .start) (e .count)))) (page (now (out .exit)) r) ⌝ }
+{
+    let mut q = p;
+    let mut between = comma;
+    let mut i = 0;
+    while i < e.count {
+        if pen::is_idle(q) {
+            return q;
+        }
+        let c = emit_comma(out, q, call, between);
+        let index = TypeIndex(entry_at(types, e, i));
+        q = emit_type_index(types, ids, out, c, call, seen, index);
+        between = true;
+        i += 1;
+    }
+    q
+}
+
+// An index by itself: read, then opened, then written; its mark where it cannot be read.
+pub fn emit_type_index(
+    types: &[u8],
+    ids: &[u8],
+    out: &mut [u8],
+    p: Pen,
+    call: Call,
+    seen: &[u64],
+    index: TypeIndex,
+) -> Pen
+    ensures { λ r. ⌜ Wrote (page (now (out .entry)) p) (walking (now (types .entry)) (now (ids .entry)) call (now (seen .entry)) (byItself (index .0))) (page (now (out .exit)) r) ⌝ }
+{
+    if pen::is_idle(p) {
+        return p;
+    }
+    let stream = call.types;
+    match type_at(types, stream, index) {
+        TypeRead::Good(t) => {
+            let nr = entry(seen, index.0);
+            if nr != 0 {
+                return pen::bar(out, p, nr == 12, index.0);
+            }
+            let mut list = [0u64; 96];
+            let n = insert(&mut list, seen, 1, index.0);
+            let q = pen::tick(out, p);
+            emit_type(types, ids, out, q, call, &list[..n], t)
+        }
+        TypeRead::Refused(f) => mark(out, p, f),
+    }
+}
+
+// A type's text, with the mark where an index in it was missing.
+fn emit_type(
+    types: &[u8],
+    ids: &[u8],
+    out: &mut [u8],
+    p: Pen,
+    call: Call,
+    seen: &[u64],
+    t: TypeData,
+) -> Pen
+    requires { ⌜ 1 ≤ length (now seen) ⌝ }
+    ensures { λ r. ⌜ Wrote (page (now (out .entry)) p) (ruling (now (types .entry)) (now (ids .entry)) call (now (seen .entry)) (texted (typeText (settingsOf call) (typeContents (now (types .entry)) t)))) (page (now (out .exit)) r) ⌝ }
+{
+    if pen::is_idle(p) {
+        return p;
+    }
+    let q = emit_type_inner(types, ids, out, p, call, seen, t);
+    marked(out, q)
+}
+
+// A type by its kind.
+fn emit_type_inner(
+    types: &[u8],
+    ids: &[u8],
+    out: &mut [u8],
+    p: Pen,
+    call: Call,
+    seen: &[u64],
+    t: TypeData,
+) -> Pen
+    requires { ⌜ 1 ≤ length (now seen) ⌝ }
+    ensures { λ r. ⌜ Wrote (page (now (out .entry)) p) (ruling (now (types .entry)) (now (ids .entry)) call (now (seen .entry)) (typeText (settingsOf call) (typeContents (now (types .entry)) t))) (page (now (out .exit)) r) ⌝ }
+{
+    match t {
+        TypeData::Primitive(x) => emit_primitive(out, p, call, false, x.code, x.indirection),
+        TypeData::Modifier(m) => {
+            let under = m.underlying;
+            emit_modifier(types, ids, out, p, call, seen, m.constant, under)
+        }
+        TypeData::Pointer(x) => {
+            let mode = x.mode;
+            let under = x.underlying;
+            let first = aim(no_levels(), x.constant, mode);
+            emit_ptr(types, ids, out, p, call, seen, first, under)
+        }
+        TypeData::Procedure(x) => emit_procedure(types, ids, out, p, call, seen, x),
+        TypeData::MemberFunction(m) => emit_member(types, ids, out, p, call, seen, m),
+        TypeData::ArgumentList(e) => emit_arg_list(types, ids, out, p, call, seen, false, e),
+        TypeData::Array(x) => emit_array(types, ids, out, p, call, seen, x),
+        _ => emit_record(types, out, p, call, t),
+    }
+}
+
+// A bare procedure: its text has no closing parenthesis.
+fn emit_procedure(
+    types: &[u8],
+    ids: &[u8],
+    out: &mut [u8],
+    p: Pen,
+    call: Call,
+    seen: &[u64],
+    x: ProcedureType,
+) -> Pen
+    ensures { λ r. ⌜ Wrote (page (now (out .entry)) p) (ruling (now (types .entry)) (now (ids .entry)) call (now (seen .entry)) (typeText (settingsOf call) (procedure (x .result .0) (x .constructor) (x .arguments .0)))) (page (now (out .exit)) r) ⌝ }
+{
+    let result = x.result;
+    let list = x.arguments;
+    let none = hides_return(call, is_void(x.constructor, result));
+    let a = emit_return_type(types, ids, out, p, call, seen, none, result);
+    let b = pen::text(out, a, b"()(");
+    emit_type_index(types, ids, out, b, call, seen, list)
+}
+
+// A bare method.
+fn emit_member(
+    types: &[u8],
+    ids: &[u8],
+    out: &mut [u8],
+    p: Pen,
+    call: Call,
+    seen: &[u64],
+    m: MemberFunctionType,
+) -> Pen
+    ensures { λ r. ⌜ Wrote (page (now (out .entry)) p) (ruling (now (types .entry)) (now (ids .entry)) call (now (seen .entry)) (typeText (settingsOf call) (method (methodOf m)))) (page (now (out .exit)) r) ⌝ }
+{
+    let result = m.result;
+    let none = hides_return(call, m.constructor);
+    let a = emit_return_type(types, ids, out, p, call, seen, none, result);
+    let b = pen::text(out, a, b"()");
+    emit_method_args(types, ids, out, b, call, seen, m, false)
+}
+
+// One pointer further in.
+fn aim(o: Levels, constant: bool, mode: PointerMode) -> Levels
+    requires { ⌜ (0 < o .left) × (o .left ≤ 96) ⌝ }
+    ensures { λ r. ⌜ (r .left ≡ o .left - 1) × (levelsOf r ≡ level constant false mode ∷ levelsOf o) ⌝ }
+{
+    push_level(
+        o,
+        PtrAttributes {
+            constant,
+            pointee: false,
+            mode,
+        },
+    )
+}
