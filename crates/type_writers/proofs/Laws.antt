@@ -1,7 +1,7 @@
 -- The laws of the strict walk: what each writer's trace is, at the tests that lead to each of its returns. Assumes nothing.
 use Prim.Native.Nat.{ℕ, zero, suc, _+_, _-_, _*_, _<_, _≤_}
 use mathlib.Core.Path.{_≡_, refl, ap, ap₂, sym, _∙_}
-use mathlib.Core.List.{List, [], _∷_, _++_}
+use mathlib.Core.List.{List, [], _∷_, _++_, append-assoc}
 use mathlib.Core.Bool.{Bool, true, false, _||_, _&&_}
 use lib.Dec.{eqb, leb}
 use lib.ListN.{length}
@@ -31,6 +31,9 @@ use Rattle.codeview.specs.declared.record.TypeRead.{TypeRead}
 use Rattle.codeview.specs.declared.record.TypeRead.the-variants.{Good, Refused}
 use Rattle.codeview.proofs.record.TypeData.{the-type}
 use Rattle.reading.specs.Trace.{
+  Mark,
+  Count,
+  plus,
   Trace,
   tr,
   End,
@@ -170,6 +173,30 @@ ends-signed [] = refl
 ends-signed (b ∷ []) = refl
 ends-signed (b ∷ d ∷ bs) = ends-signed (d ∷ bs)
 
+-- One trace after two others.
+prefixed : (bs cs : List ℕ) (ns ms : List Mark) (j k : Count) (t : Trace Refusal)
+    → prefix (bs ++ cs) (ns ++ ms) (plus j k) t ≡ prefix bs ns j (prefix cs ms k t)
+prefixed bs cs ns ms j k (tr ds e ls l) =
+    let a : (j .opened + k .opened) + l .opened ≡ j .opened + (k .opened + l .opened) = omega arith in
+    let b : (j .taken + k .taken) + l .taken ≡ j .taken + (k .taken + l .taken) = omega arith in
+    rw (a, b, append-assoc, append-assoc)
+
+after-prefix : (bs : List ℕ) (ns : List Mark) (j : Count) (t u : Trace Refusal) → (prefix bs ns j t) ⨾ u ≡ prefix bs ns j (t ⨾ u)
+unfolding _⨾_
+after-prefix bs ns j (tr cs done ms k) u = prefixed bs cs ns ms j k u
+after-prefix bs ns j (tr cs (missing i) ms k) u = refl
+after-prefix bs ns j (tr cs (refused r) ms k) u = refl
+after-prefix bs ns j (tr cs (halted x) ms k) u = refl
+after-prefix bs ns j (tr cs trace.unfinished ms k) u = refl
+
+pub in-turn : (t u v : Trace Refusal) → (t ⨾ u) ⨾ v ≡ t ⨾ (u ⨾ v)
+unfolding _⨾_
+in-turn (tr bs done ns c) u v = after-prefix bs ns c u v
+in-turn (tr bs (missing i) ns c) u v = refl
+in-turn (tr bs (refused r) ns c) u v = refl
+in-turn (tr bs (halted x) ns c) u v = refl
+in-turn (tr bs trace.unfinished ns c) u v = refl
+
 -- An index is open whatever the way.
 open-is : (w i : ℕ) (o : List Key) → isOpen sameIndex (key w i) o ≡ hasIndex i o
 unfolding isOpen sameIndex hasIndex
@@ -305,7 +332,7 @@ module _ (c : Settings) (t : Table) (h : Held) where
   unfolding unread unreadTrace ruled exec
   unread-is f = sym (ruled-pick (eqb (numberOf f) 8) (trace.miss (detailOf f)) (refuse f))
 
-  marked-is : (f : Refusal) → markTrace f ≡ ruled c t h (marked f)
+  pub marked-is : (f : Refusal) → markTrace f ≡ ruled c t h (marked f)
   unfolding marked markTrace ruled exec
   marked-is f =
       sym
@@ -331,7 +358,7 @@ module _ (c : Settings) (t : Table) (h : Held) where
   hidden true b i = refl
   hidden false b i = refl
 
-  returned-is : (none b : Bool) (i : ℕ) → none ≡ c .noReturn || b → ruled c t h (result c none i) ≡ ruled c t h (returned c (result c b i))
+  pub returned-is : (none b : Bool) (i : ℕ) → none ≡ c .noReturn || b → ruled c t h (result c none i) ≡ ruled c t h (returned c (result c b i))
   unfolding returned
   returned-is none b i e = rw e (hidden (c .noReturn) b i)
 
@@ -409,11 +436,11 @@ module _ (s d : List ℕ) (call : Call) (o : List ℕ) where
   h = holding call o
 
   -- What was read.
-  read-good : (i : ℕ) (r : TypeRead) (x : TypeData) → r ≡ readType s (call .types) i → r ≡ Good x → t .types i ≡ good (typeContents s x)
+  pub read-good : (i : ℕ) (r : TypeRead) (x : TypeData) → r ≡ readType s (call .types) i → r ≡ Good x → t .types i ≡ good (typeContents s x)
   unfolding tableIn tableOf typeReading
   read-good i r x e f = let k : readType s (call .types) i ≡ Good x = cc in rw k
 
-  read-bad : (i : ℕ) (r : TypeRead) (f : Refusal) → r ≡ readType s (call .types) i → r ≡ Refused f → t .types i ≡ bad f
+  pub read-bad : (i : ℕ) (r : TypeRead) (f : Refusal) → r ≡ readType s (call .types) i → r ≡ Refused f → t .types i ≡ bad f
   unfolding tableIn tableOf typeReading
   read-bad i r f e g = let k : readType s (call .types) i ≡ Refused f = cc in rw k
 
@@ -440,13 +467,13 @@ module _ (s d : List ℕ) (call : Call) (o : List ℕ) where
   in-at false false q w i nr m p a b e f g z k =
       rw (z, ← k) (opened-twice (exec strict (λ u. walked c t (held (call .chain) (key w i ∷ keysOf o)) u) (body c t q)) ∙ walk-open sameIndex (entryOf c t) (body c t) rank (ranked c t) h q (key w i) e (open-is w i (keysOf o) ∙ a) b)
 
-  walk-in : (q : Task) (w i nr : ℕ) (m : List ℕ) (p : Rule) → entryOf c t q ≡ opens (key w i) → Entering o i nr → nr ≡ 0 → i < 4_294_967_296
+  pub walk-in : (q : Task) (w i nr : ℕ) (m : List ℕ) (p : Rule) → entryOf c t q ≡ opens (key w i) → Entering o i nr → nr ≡ 0 → i < 4_294_967_296
       → m ≡ (w * 4_294_967_296 + i) ∷ o → body c t q ≡ p → opened ⨾ ruled c t (holding call m) p ≡ walked c t h q
   unfolding entryNo
   walk-in q w i nr m p e f g b z k =
       in-at (hasIndex i (keysOf o)) (leb 96 (length (keysOf o))) q w i nr m p refl refl e (f .number) g (keys-push o m w i b z) k
 
-  walk-on : (q : Task) (p : Rule) → entryOf c t q ≡ through → body c t q ≡ p → step ⨾ ruled c t h p ≡ walked c t h q
+  pub walk-on : (q : Task) (p : Rule) → entryOf c t q ≡ through → body c t q ≡ p → step ⨾ ruled c t h p ≡ walked c t h q
   unfolding walked ruled step _⨾_
   walk-on q p e k = rw (← k) (walk-through sameIndex (entryOf c t) (body c t) rank (ranked c t) h q e)
 
@@ -753,27 +780,27 @@ pub pushed-length : (o m : List ℕ) (x : ℕ) → m ≡ x ∷ o → length m �
 pushed-length o m x e = rw e (sym (add-one (length o)))
 
 -- The entries of a list from the one with a number on.
-numbers-more : (s : List ℕ) (at n : ℕ) → 0 < n → numbersAt s at n ≡ number 4 s at ∷ numbersAt s (at + 4) (n - 1)
+pub numbers-more : (s : List ℕ) (at n : ℕ) → 0 < n → numbersAt s at n ≡ number 4 s at ∷ numbersAt s (at + 4) (n - 1)
 unfolding numbersAt
 numbers-more s at zero h = absurd (omega arith)
 numbers-more s at (suc n) h = let k : suc n - 1 ≡ n = omega arith in rw k
 
-abbrev from : List ℕ → Entries → ℕ → List ℕ
+abbrev pub from : List ℕ → Entries → ℕ → List ℕ
 from s e i = numbersAt s (e .start + 4 * i) (e .count - i)
 
-from-all : (s : List ℕ) (e : Entries) → from s e 0 ≡ numbersAt s (e .start) (e .count)
+pub from-all : (s : List ℕ) (e : Entries) → from s e 0 ≡ numbersAt s (e .start) (e .count)
 from-all s e =
     let a : e .start + 4 * 0 ≡ e .start = omega arith in
     let b : e .count - 0 ≡ e .count = omega arith in
     rw (a, b)
 
-from-next : (s : List ℕ) (e : Entries) (i : ℕ) → i < e .count → from s e i ≡ number 4 s (e .start + 4 * i) ∷ from s e (i + 1)
+pub from-next : (s : List ℕ) (e : Entries) (i : ℕ) → i < e .count → from s e i ≡ number 4 s (e .start + 4 * i) ∷ from s e (i + 1)
 from-next s e i h =
     let a : e .start + 4 * i + 4 ≡ e .start + 4 * (i + 1) = omega arith in
     let b : e .count - i - 1 ≡ e .count - (i + 1) = omega arith in
     numbers-more s (e .start + 4 * i) (e .count - i) (omega arith) ∙ (rw (a, b))
 
-from-none : (s : List ℕ) (e : Entries) (i : ℕ) → e .count ≤ i → from s e i ≡ []
+pub from-none : (s : List ℕ) (e : Entries) (i : ℕ) → e .count ≤ i → from s e i ≡ []
 unfolding numbersAt
 from-none s e i h = let a : e .count - i ≡ 0 = omega arith in rw a
 

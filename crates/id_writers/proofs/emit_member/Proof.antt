@@ -1,0 +1,62 @@
+-- The parts one after another, as the rule has them.
+-- Assumes nothing.
+use borrow.Author.Needs.{needs}
+use Rattle.pen.proofs.Laws.{_▸_, wrote-by, wrote-length}
+use Rattle.type_writers.specs.Walking.{methodOf}
+use Rattle.id_writers.proofs.Laws.{member-named}
+use Rattle.id_writers.proofs.emit_member.Statement.{statement}
+use Rattle.id_writers.proofs.emit_member.Tie as tie
+use Rattle.id_writers.proofs.emit_member.Reads as reads
+use Rattle.id_writers.proofs.emit_member.Lts as lts
+use Rattle.pen.proofs.text.Reads as text-reads
+use Rattle.pieces.proofs.hides_return.Reads as hides-return-reads
+use Rattle.pieces.proofs.maybe_emit_static.Reads as maybe-emit-static-reads
+use Rattle.type_writers.proofs.emit_method_args.Reads as emit-method-args-reads
+use Rattle.type_writers.proofs.emit_return_type.Reads as emit-return-type-reads
+use Rattle.type_writers.proofs.emit_type_index.Reads as emit-type-index-reads
+use Rattle.writers.proofs.names.emit_name_str.Reads as emit-name-str-reads
+
+hides-return-requires : tie.Need-hides-return-requires
+hides-return-requires c κs = search needs
+
+maybe-emit-static-requires : tie.Need-maybe-emit-static-requires
+maybe-emit-static-requires c κs = search needs
+
+emit-return-type-requires : tie.Need-emit-return-type-requires
+emit-return-type-requires c κs = search needs
+
+emit-type-index-requires : tie.Need-emit-type-index-requires
+emit-type-index-requires c κs = search needs
+
+slice-aggregate-text : tie.Need-slice-aggregate-text
+slice-aggregate-text c = search needs
+
+text-requires : tie.Need-text-requires
+text-requires c κs = search needs
+
+emit-name-str-requires : tie.Need-emit-name-str-requires
+emit-name-str-requires c κs = search needs
+
+emit-method-args-requires : tie.Need-emit-method-args-requires
+emit-method-args-requires c κs = search needs
+
+same-length : tie.Need-same-length
+same-length c = wrote-length (c .before .before .before .before .before .before .before .before .before .before .before .before .before .before .before .before .before .before .before .before .before .before .before .maybe-emit-static .ensures ▸ c .before .before .before .before .before .before .before .before .before .before .before .before .before .before .before .before .before .before .before .emit-return-type .ensures ▸ c .before .before .before .before .before .before .before .before .before .before .before .before .before .before .before .emit-type-index .ensures ▸ c .before .before .before .before .before .before .before .before .before .before .text .ensures ▸ c .before .before .before .before .before .before .emit-name-str .ensures ▸ c .before .before .emit-method-args .ensures)
+
+returns : tie.Need-returns
+returns c = wrote-by (c .before .before .before .before .before .before .before .before .before .before .before .before .before .before .before .before .before .before .before .before .before .before .before .maybe-emit-static .ensures ▸ c .before .before .before .before .before .before .before .before .before .before .before .before .before .before .before .before .before .before .before .emit-return-type .ensures ▸ c .before .before .before .before .before .before .before .before .before .before .before .before .before .before .before .emit-type-index .ensures ▸ c .before .before .before .before .before .before .before .before .before .before .text .ensures ▸ c .before .before .before .before .before .before .emit-name-str .ensures ▸ c .before .before .emit-method-args .ensures) (member-named _ _ _ (methodOf (c .before .before .before .before .before .before .before .before .before .before .before .before .before .before .before .before .before .before .before .before .before .before .before .before .before .before .before .before .before .before .before .before .before .args .m)) _ _ _ (c .before .before .before .before .before .before .before .before .before .before .before .before .before .before .before .before .before .before .before .before .before .before .before .before .before .hides-return .ensures))
+
+pub emit-member-spec : {M : Type 1} → statement M
+emit-member-spec =
+    tie.close
+    (tie.spec
+    hides-return-requires
+    maybe-emit-static-requires
+    emit-return-type-requires
+    emit-type-index-requires
+    slice-aggregate-text
+    text-requires
+    emit-name-str-requires
+    emit-method-args-requires
+    same-length
+    returns)

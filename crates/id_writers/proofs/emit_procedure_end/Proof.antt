@@ -1,0 +1,66 @@
+-- The parts one after another, as the rule has them.
+-- Assumes nothing.
+use borrow.Author.Needs.{needs}
+use Rattle.pen.proofs.Laws.{_▸_, wrote-by, wrote-none, wrote-length}
+use Rattle.id_writers.proofs.Laws.{end-hidden, end-shown}
+use Rattle.id_writers.proofs.emit_procedure_end.Statement.{statement}
+use Rattle.id_writers.proofs.emit_procedure_end.Tie as tie
+use Rattle.id_writers.proofs.emit_procedure_end.Reads as reads
+use Rattle.id_writers.proofs.emit_procedure_end.Lts as lts
+use Rattle.parts.proofs.settings.no_arguments.Reads as no-arguments-reads
+use Rattle.pen.proofs.text.Reads as text-reads
+use Rattle.type_writers.proofs.emit_type_index.Reads as emit-type-index-reads
+use Rattle.writers.proofs.names.emit_name_str.Reads as emit-name-str-reads
+
+text-requires : tie.Need-text-requires
+text-requires c κs = search needs
+
+emit-name-str-requires : tie.Need-emit-name-str-requires
+emit-name-str-requires c κs = search needs
+
+no-arguments-requires : tie.Need-no-arguments-requires
+no-arguments-requires c κs = search needs
+
+same-length : tie.Need-same-length
+same-length c = wrote-length (c .before .before .before .before .before .before .before .before .text .ensures ▸ c .before .before .before .before .emit-name-str .ensures)
+
+returns : tie.Need-returns
+returns c = wrote-by (c .before .before .before .before .before .before .before .before .text .ensures ▸ c .before .before .before .before .emit-name-str .ensures ▸ wrote-none) (end-hidden _ _ _ _ _ _ _ (c .before .no-arguments .ensures) (c .if1 .taken))
+
+slice-aggregate-text : tie.Need-slice-aggregate-text
+slice-aggregate-text c = search needs
+
+text-requires-2 : tie.Need-text-requires-2
+text-requires-2 c κs = search needs
+
+emit-type-index-requires : tie.Need-emit-type-index-requires
+emit-type-index-requires c κs = search needs
+
+slice-aggregate-text-2 : tie.Need-slice-aggregate-text-2
+slice-aggregate-text-2 c = search needs
+
+text-requires-3 : tie.Need-text-requires-3
+text-requires-3 c κs = search needs
+
+same-length-2 : tie.Need-same-length-2
+same-length-2 c = wrote-length (c .before .before .before .before .before .before .before .before .before .before .before .before .before .before .before .before .before .before .before .before .before .before .text .ensures ▸ c .before .before .before .before .before .before .before .before .before .before .before .before .before .before .before .before .before .before .emit-name-str .ensures ▸ c .before .before .before .before .before .before .before .before .before .before .before .text2 .ensures ▸ c .before .before .before .before .before .before .before .emit-type-index .ensures ▸ c .before .before .text3 .ensures)
+
+returns-2 : tie.Need-returns-2
+returns-2 c = wrote-by (c .before .before .before .before .before .before .before .before .before .before .before .before .before .before .before .before .before .before .before .before .before .before .text .ensures ▸ c .before .before .before .before .before .before .before .before .before .before .before .before .before .before .before .before .before .before .emit-name-str .ensures ▸ c .before .before .before .before .before .before .before .before .before .before .before .text2 .ensures ▸ c .before .before .before .before .before .before .before .emit-type-index .ensures ▸ c .before .before .text3 .ensures) (end-shown _ _ _ _ _ _ _ (c .before .before .before .before .before .before .before .before .before .before .before .before .before .before .before .no-arguments .ensures) (c .before .before .before .before .before .before .before .before .before .before .before .before .before .before .if1 .left))
+
+pub emit-procedure-end-spec : {M : Type 1} → statement M
+emit-procedure-end-spec =
+    tie.close
+    (tie.spec
+    text-requires
+    emit-name-str-requires
+    no-arguments-requires
+    same-length
+    returns
+    slice-aggregate-text
+    text-requires-2
+    emit-type-index-requires
+    slice-aggregate-text-2
+    text-requires-3
+    same-length-2
+    returns-2)

@@ -1,0 +1,370 @@
+// The texts of functions and of ids. Each opens its function type first, in a list of its own; an id that is a scope counts in a chain of at most 32.
+ghost use mathlib.Core.Path.{_≡_};
+ghost use mathlib.Core.Bool.{false};
+ghost use mathlib.Core.List.{[]};
+ghost use Prim.Native.Nat.{_+_, _<_};
+ghost use Rattle.reading.specs.Trace.{write, seq};
+ghost use Rattle.rules.specs.Text.{functionName};
+ghost use Rattle.wire.specs.Text.{bytes};
+ghost use Rattle.reading.specs.Trace as trace;
+ghost use Rattle.rules.specs.Record.{idContents, nameAt, numbersAt};
+ghost use Rattle.rules.specs.Rules.{byItself, functionOf, idOf, memberId, procedureArguments, methodNamed, stringEntries};
+ghost use Rattle.pen.specs.Page.{page, Wrote};
+ghost use Rattle.context.specs.Context.{settingsOf};
+ghost use Rattle.type_writers.specs.Walking.{walking, ruling, methodOf};
+ghost use Rattle.id_writers.specs.Ids.{further, ProcedureIs, MethodIs, otherText};
+use codeview::ids::id_at;
+use codeview::index::IdIndex;
+use codeview::index::TypeIndex;
+use codeview::record::Entries;
+use codeview::record::IdData;
+use codeview::record::IdRead;
+use codeview::record::MemberFunctionId;
+use codeview::record::MemberFunctionType;
+use codeview::record::ProcedureType;
+use codeview::record::TypeData;
+use codeview::record::TypeRead;
+use codeview::types::type_at;
+use context::flags::Call;
+use context::seen::insert;
+use parts::settings::no_arguments;
+use parts::settings::text_if;
+use pen::Pen;
+use pieces::entry_at;
+use pieces::hides_return;
+use pieces::is_void;
+use pieces::maybe_emit_static;
+use streams::refusal::Refusal;
+use streams::stream::Stream;
+use type_writers::emit_method_args;
+use type_writers::emit_return_type;
+use type_writers::emit_type_index;
+use writers::marks::mark;
+use writers::marks::unhandled_scope;
+use writers::names::emit_name_str;
+use writers::names::name_of;
+use writers::strings::emit_string;
+
+// The function type of a function id, or the refusal.
+pub enum ProcedureRead {
+    Good(ProcedureType),
+    Refused(Refusal),
+}
+
+// The function type of a member function id, or the refusal.
+pub enum MethodRead {
+    Good(MemberFunctionType),
+    Refused(Refusal),
+}
+
+fn procedure_at(types: &[u8], stream: Stream, index: TypeIndex) -> ProcedureRead
+    ensures { λ r. ⌜ ProcedureIs (now (types .entry)) stream (index .0) r ⌝ }
+{
+    match type_at(types, stream, index) {
+        TypeRead::Good(t) => {
+            let TypeData::Procedure(x) = t else {
+                return ProcedureRead::Refused(Refusal::FunctionIdIsNotProcedureType(index.0));
+            };
+            ProcedureRead::Good(x)
+        }
+        TypeRead::Refused(f) => ProcedureRead::Refused(f),
+    }
+}
+
+fn method_at(types: &[u8], stream: Stream, index: TypeIndex) -> MethodRead
+    ensures { λ r. ⌜ MethodIs (now (types .entry)) stream (index .0) r ⌝ }
+{
+    match type_at(types, stream, index) {
+        TypeRead::Good(t) => {
+            let TypeData::MemberFunction(m) = t else {
+                return MethodRead::Refused(Refusal::MemberFunctionIdIsNotMemberFunctionType(
+                    index.0,
+                ));
+            };
+            MethodRead::Good(m)
+        }
+        TypeRead::Refused(f) => MethodRead::Refused(f),
+    }
+}
+
+// One id further in the chain of scopes.
+fn deeper(call: Call) -> Call
+    requires { ⌜ call .chain < 32 ⌝ }
+    ensures { λ r. ⌜ r ≡ further call ⌝ }
+{
+    let types = call.types;
+    let ids = call.ids;
+    let flags = call.flags;
+    Call {
+        flags,
+        size: call.size,
+        chain: call.chain + 1,
+        types,
+        ids,
+    }
+}
+
+// What stands before a procedure's name, the name, and the arguments.
+fn emit_procedure_end(
+    types: &[u8],
+    ids: &[u8],
+    out: &mut [u8],
+    p: Pen,
+    call: Call,
+    seen: &[u64],
+    before: &[u8],
+    name: &[u8],
+    list: TypeIndex,
+) -> Pen
+    ensures { λ r. ⌜ Wrote (page (now (out .entry)) p) (ruling (now (types .entry)) (now (ids .entry)) call (now (seen .entry)) (seq (write (now (before .entry))) (seq (write (functionName (now (name .entry)))) (procedureArguments (settingsOf call) (list .0))))) (page (now (out .exit)) r) ⌝ }
+{
+    let a = pen::text(out, p, before);
+    let b = emit_name_str(out, a, name);
+    if no_arguments(call) {
+        return b;
+    }
+    let c = pen::text(out, b, b"(");
+    let d = emit_type_index(types, ids, out, c, call, seen, list);
+    pen::text(out, d, b")")
+}
+
+// A function by its name and type: the type is opened, then read. Type 0 writes only the name, and so does a type that is no function's.
+pub fn emit_function(
+    types: &[u8],
+    ids: &[u8],
+    out: &mut [u8],
+    p: Pen,
+    call: Call,
+    name: &[u8],
+    index: TypeIndex,
+) -> Pen
+    ensures { λ r. ⌜ Wrote (page (now (out .entry)) p) (walking (now (types .entry)) (now (ids .entry)) call [] (functionOf (index .0) (now (name .entry)))) (page (now (out .exit)) r) ⌝ }
+{
+    if index.0 == 0 {
+        return emit_name_str(out, p, name);
+    }
+    let none = [0u64; 1];
+    let mut list = [0u64; 96];
+    let n = insert(&mut list, &none[..0], 0, index.0);
+    let q = pen::tick(out, p);
+    let stream = call.types;
+    match type_at(types, stream, index) {
+        TypeRead::Good(t) => match t {
+            TypeData::MemberFunction(m) => emit_method(
+                types,
+                ids,
+                out,
+                q,
+                call,
+                &list[..n],
+                name,
+                m,
+            ),
+            TypeData::Procedure(x) => {
+                let result = x.result;
+                let hidden = hides_return(call, is_void(x.constructor, result));
+                let a = emit_return_type(types, ids, out, q, call, &list[..n], hidden, result);
+                let arguments = x.arguments;
+                emit_procedure_end(types, ids, out, a, call, &list[..n], b"", name, arguments)
+            }
+            _ => pen::text(out, q, name),
+        },
+        TypeRead::Refused(f) => pen::unread(out, q, f),
+    }
+}
+
+// A method by its name.
+fn emit_method(
+    types: &[u8],
+    ids: &[u8],
+    out: &mut [u8],
+    p: Pen,
+    call: Call,
+    seen: &[u64],
+    name: &[u8],
+    m: MemberFunctionType,
+) -> Pen
+    ensures { λ r. ⌜ Wrote (page (now (out .entry)) p) (ruling (now (types .entry)) (now (ids .entry)) call (now (seen .entry)) (methodNamed (settingsOf call) (methodOf m) (write []) (now (name .entry)))) (page (now (out .exit)) r) ⌝ }
+{
+    let this = m.this;
+    let result = m.result;
+    let hidden = hides_return(call, m.constructor);
+    let a = maybe_emit_static(out, p, call, this);
+    let b = emit_return_type(types, ids, out, a, call, seen, hidden, result);
+    let c = emit_name_str(out, b, name);
+    emit_method_args(types, ids, out, c, call, seen, m, true)
+}
+
+// A method by its name and its parent, which is a type.
+fn emit_member(
+    types: &[u8],
+    ids: &[u8],
+    out: &mut [u8],
+    p: Pen,
+    call: Call,
+    seen: &[u64],
+    parent: TypeIndex,
+    name: &[u8],
+    m: MemberFunctionType,
+) -> Pen
+    ensures { λ r. ⌜ Wrote (page (now (out .entry)) p) (ruling (now (types .entry)) (now (ids .entry)) call (now (seen .entry)) (methodNamed (settingsOf call) (methodOf m) (seq (trace.call (byItself (parent .0))) (write (bytes "::"))) (now (name .entry)))) (page (now (out .exit)) r) ⌝ }
+{
+    let this = m.this;
+    let result = m.result;
+    let hidden = hides_return(call, m.constructor);
+    let a = maybe_emit_static(out, p, call, this);
+    let b = emit_return_type(types, ids, out, a, call, seen, hidden, result);
+    let c = emit_type_index(types, ids, out, b, call, seen, parent);
+    let d = pen::text(out, c, b"::");
+    let e = emit_name_str(out, d, name);
+    emit_method_args(types, ids, out, e, call, seen, m, true)
+}
+
+// A member function id.
+fn emit_member_id(
+    types: &[u8],
+    ids: &[u8],
+    out: &mut [u8],
+    p: Pen,
+    call: Call,
+    d: MemberFunctionId,
+) -> Pen
+    ensures { λ r. ⌜ Wrote (page (now (out .entry)) p) (walking (now (types .entry)) (now (ids .entry)) call [] (memberId (d .parent .0) (d .function .0) (nameAt (now (ids .entry)) (d .name)))) (page (now (out .exit)) r) ⌝ }
+{
+    let function = d.function;
+    let parent = d.parent;
+    let name = d.name;
+    let none = [0u64; 1];
+    let mut list = [0u64; 96];
+    let n = insert(&mut list, &none[..0], 0, function.0);
+    let q = pen::tick(out, p);
+    let stream = call.types;
+    match method_at(types, stream, function) {
+        MethodRead::Good(m) => emit_member(
+            types,
+            ids,
+            out,
+            q,
+            call,
+            &list[..n],
+            parent,
+            name_of(ids, name),
+            m,
+        ),
+        MethodRead::Refused(f) => pen::unread(out, q, f),
+    }
+}
+
+// The entries of a string list, written as types.
+fn emit_string_list(types: &[u8], ids: &[u8], out: &mut [u8], p: Pen, call: Call, e: Entries) -> Pen
+    ensures { λ r. ⌜ Wrote (page (now (out .entry)) p) (ruling (now (types .entry)) (now (ids .entry)) call [] (stringEntries (settingsOf call) false (numbersAt (now (ids .entry)) (e .start) (e .count)))) (page (now (out .exit)) r) ⌝ }
+{
+    let none = [0u64; 1];
+    let mut q = p;
+    let mut between = false;
+    let mut i = 0;
+    while i < e.count {
+        if pen::is_idle(q) {
+            return q;
+        }
+        let c = text_if(out, q, between, b"\" \"");
+        let index = TypeIndex(entry_at(ids, e, i));
+        q = emit_type_index(types, ids, out, c, call, &none[..0], index);
+        between = true;
+        i += 1;
+    }
+    q
+}
+
+// Any id but a function's.
+fn emit_other_id(types: &[u8], ids: &[u8], out: &mut [u8], p: Pen, call: Call, d: IdData) -> Pen
+    ensures { λ r. ⌜ Wrote (page (now (out .entry)) p) (ruling (now (types .entry)) (now (ids .entry)) call [] (otherText (settingsOf call) (idContents (now (ids .entry)) d))) (page (now (out .exit)) r) ⌝ }
+{
+    match d {
+        IdData::Function(_) => p,
+        IdData::MemberFunction(m) => emit_member_id(types, ids, out, p, call, m),
+        IdData::StringList(e) => {
+            let a = pen::text(out, p, b"\"");
+            let b = emit_string_list(types, ids, out, a, call, e);
+            pen::text(out, b, b"\"")
+        }
+        IdData::String(s) => {
+            let name = s.name;
+            emit_string(out, p, name_of(ids, name))
+        }
+        IdData::Unhandled(kind) => unhandled_scope(out, p, kind),
+    }
+}
+
+// An id. A function's scope is an id again: the allowance, 32 at first, drops by one.
+pub fn emit_id(
+    types: &[u8],
+    ids: &[u8],
+    out: &mut [u8],
+    p: Pen,
+    call: Call,
+    allowance: u32,
+    index: IdIndex,
+) -> Pen
+    requires { ⌜ call .chain + allowance ≡ 32 ⌝ }
+    ensures { λ r. ⌜ Wrote (page (now (out .entry)) p) (walking (now (types .entry)) (now (ids .entry)) call [] (idOf (index .0))) (page (now (out .exit)) r) ⌝ }
+{
+    if pen::is_idle(p) {
+        return p;
+    }
+    let stream = call.ids;
+    match id_at(ids, stream, index) {
+        IdRead::Good(d) => {
+            if allowance == 0 {
+                return pen::too_long(out, p, index.0);
+            }
+            let inner = deeper(call);
+            let IdData::Function(f) = d else {
+                return emit_other_id(types, ids, out, p, inner, d);
+            };
+            let function = f.function;
+            let none = [0u64; 1];
+            let mut list = [0u64; 96];
+            let n = insert(&mut list, &none[..0], 0, function.0);
+            let q = pen::tick(out, p);
+            let stream = inner.types;
+            match procedure_at(types, stream, function) {
+                ProcedureRead::Good(x) => {
+                    let scope = f.scope;
+                    let name = f.name;
+                    let result = x.result;
+                    let arguments = x.arguments;
+                    let hidden = hides_return(inner, is_void(x.constructor, result));
+                    let a = emit_return_type(types, ids, out, q, inner, &list[..n], hidden, result);
+                    if scope.0 == 0 {
+                        return emit_procedure_end(
+                            types,
+                            ids,
+                            out,
+                            a,
+                            inner,
+                            &list[..n],
+                            b"",
+                            name_of(ids, name),
+                            arguments,
+                        );
+                    }
+                    let b = emit_id(types, ids, out, a, inner, allowance - 1, scope);
+                    emit_procedure_end(
+                        types,
+                        ids,
+                        out,
+                        b,
+                        inner,
+                        &list[..n],
+                        b"::",
+                        name_of(ids, name),
+                        arguments,
+                    )
+                }
+                ProcedureRead::Refused(f) => pen::unread(out, q, f),
+            }
+        }
+        IdRead::Refused(f) => mark(out, p, f),
+    }
+}
