@@ -285,26 +285,29 @@ module _ (c : Settings) (t : Table) (h : Held) where
       ∙ ap (λ (x : Trace Refusal). say (staticText c (m .this)) ⨾ ruled c t h (returned c (result c (m .constructor) (m .result))) ⨾ x)
       (sym (in-turn (walked c t h (byItself parent)) (say (bytes "::")) (say (functionName name) ⨾ ruled c t h (methodArguments c m true))))
 
-  pub procedure-named : (r list : ℕ) (b v none : Bool) (before name : List ℕ) → v ≡ b || eqb r 0 → none ≡ c .noReturn || v
-      → ruled c t h (result c none r) ⨾ ruled c t h (ended before name list) ≡ ruled c t h (procedureNamed c r b list (write before) name)
-  unfolding ruled exec procedureNamed procedureResult _⨾_
-  procedure-named r list b v none before name e f =
-      let k : none ≡ c .noReturn || (b || eqb r 0) = rw (← e) f in
-      ap (λ (x : Trace Refusal). x ⨾ ruled c t h (ended before name list)) (returned-is c t h none (b || eqb r 0) r k)
+  abbrev resulting : ℕ → Bool → Rule
+  resulting r b = returned c (procedureResult c b r)
 
-  pub scoped-none : (r list scope : ℕ) (b v none : Bool) (name : List ℕ) → scope ≡ 0 → v ≡ b || eqb r 0 → none ≡ c .noReturn || v
-      → ruled c t h (result c none r) ⨾ ruled c t h (ended [] name list) ≡ ruled c t h (procedureNamed c r b list (scopeText c scope) name)
+  pub result-is : (r : ℕ) (b v none : Bool) → v ≡ b || eqb r 0 → none ≡ c .noReturn || v → ruled c t h (result c none r) ≡ ruled c t h (resulting r b)
+  unfolding procedureResult
+  result-is r b v none e f = let k : none ≡ c .noReturn || (b || eqb r 0) = rw (← e) f in returned-is c t h none (b || eqb r 0) r k
+
+  pub procedure-named : (r list : ℕ) (b : Bool) (before name : List ℕ)
+      → ruled c t h (resulting r b) ⨾ ruled c t h (ended before name list) ≡ ruled c t h (procedureNamed c r b list (write before) name)
+  unfolding ruled exec procedureNamed _⨾_
+  procedure-named r list b before name = refl
+
+  pub scoped-none : (r list scope : ℕ) (b : Bool) (name : List ℕ) → scope ≡ 0
+      → ruled c t h (resulting r b) ⨾ ruled c t h (ended [] name list) ≡ ruled c t h (procedureNamed c r b list (scopeText c scope) name)
   unfolding scopeText
-  scoped-none r list scope b v none name g e f = rw (eq-eqb scope 0 g) (procedure-named r list b v none [] name e f)
+  scoped-none r list scope b name g = rw (eq-eqb scope 0 g) (procedure-named r list b [] name)
 
-  pub scoped : (r list scope : ℕ) (b v none : Bool) (name : List ℕ) → (scope ≡ 0 → ⊥) → v ≡ b || eqb r 0 → none ≡ c .noReturn || v
-      → ruled c t h (result c none r) ⨾ walked c t h (idOf scope) ⨾ ruled c t h (ended (bytes "::") name list)
+  pub scoped : (r list scope : ℕ) (b : Bool) (name : List ℕ) → (scope ≡ 0 → ⊥)
+      → ruled c t h (resulting r b) ⨾ walked c t h (idOf scope) ⨾ ruled c t h (ended (bytes "::") name list)
       ≡ ruled c t h (procedureNamed c r b list (scopeText c scope) name)
-  unfolding ruled exec procedureNamed procedureResult scopeText _⨾_
-  scoped r list scope b v none name g e f =
-      let k : none ≡ c .noReturn || (b || eqb r 0) = rw (← e) f in
-      ap (λ (x : Trace Refusal). x ⨾ walked c t h (idOf scope) ⨾ ruled c t h (ended (bytes "::") name list)) (returned-is c t h none (b || eqb r 0) r k)
-      ∙ ap (λ (x : Trace Refusal). ruled c t h (returned c (result c (b || eqb r 0) r)) ⨾ x)
+  unfolding ruled exec procedureNamed scopeText _⨾_
+  scoped r list scope b name g =
+      ap (λ (x : Trace Refusal). ruled c t h (resulting r b) ⨾ x)
       (sym (in-turn (walked c t h (idOf scope)) (say (bytes "::")) (ruled c t h (seq (write (functionName name)) (procedureArguments c list)))))
       ∙ rw (ne-eqb scope 0 g)
 
@@ -367,17 +370,12 @@ module _ (s d : List ℕ) (call : Call) where
         let k : t .types i ≡ good (typeContents s x) = read-good s d call [] i r x e f in
         function-in (methodNamed c (methodOf p) (write []) name) (rw (k, g))
 
-    pub function-procedure : (x : TypeData) (p : ProcedureType) (v none : Bool) → r ≡ Good x → x ≡ type.Procedure p → v ≡ p .constructor || eqb (p .result .0) 0
-        → none ≡ c .noReturn || v
-        → opened ⨾ ruled c t (holding call m) (result c none (p .result .0))
-        ⨾ ruled c t (holding call m) (seq (write []) (seq (write (functionName name)) (procedureArguments c (p .arguments .0))))
-        ≡ walked c t h (functionOf i name)
+    pub function-procedure : (x : TypeData) (p : ProcedureType) → r ≡ Good x → x ≡ type.Procedure p
+        → opened ⨾ ruled c t (holding call m) (procedureNamed c (p .result .0) (p .constructor) (p .arguments .0) (write []) name) ≡ walked c t h (functionOf i name)
     unfolding functionText typeContents
-    function-procedure x p v none f g a b =
+    function-procedure x p f g =
         let k : t .types i ≡ good (typeContents s x) = read-good s d call [] i r x e f in
-        ap (λ (x : Trace Refusal). opened ⨾ x)
-        (procedure-named c t (holding call m) (p .result .0) (p .arguments .0) (p .constructor) v none [] name a b)
-        ∙ function-in (procedureNamed c (p .result .0) (p .constructor) (p .arguments .0) (write []) name) (rw (k, g))
+        function-in (procedureNamed c (p .result .0) (p .constructor) (p .arguments .0) (write []) name) (rw (k, g))
 
     pub function-other : (x : TypeData) → r ≡ Good x → OneOf noFunction (tagOf the-type x) → opened ⨾ say name ≡ walked c t h (functionOf i name)
     unfolding ruled exec
@@ -460,28 +458,31 @@ module _ (s d : List ℕ) (call : Call) where
   id-held o i = held-by o i (readId d (call .ids) i) refl (decLt (call .chain) 32)
 
   module _ (scope i : ℕ) (name : List ℕ) (r : ProcedureRead) (m : List ℕ) (l : i < 4_294_967_296) (z : m ≡ (0 * 4_294_967_296 + i) ∷ [])
-      (e : ProcedureIs s (call .types) i r) (p : ProcedureType) (f : r ≡ procedureRead.Good p) (v none : Bool)
-      (a : v ≡ p .constructor || eqb (p .result .0) 0) (b : none ≡ c .noReturn || v) where
+      (e : ProcedureIs s (call .types) i r) (p : ProcedureType) (f : r ≡ procedureRead.Good p) where
     abbrev rest : List ℕ → Rule
     rest before = seq (write before) (seq (write (functionName name)) (procedureArguments c (p .arguments .0)))
 
-    pub function-id-alone : scope ≡ 0
-        → opened ⨾ ruled c t (holding call m) (result c none (p .result .0)) ⨾ ruled c t (holding call m) (rest []) ≡ walked c t h (functionId scope i name)
+    abbrev first : Rule
+    first = returned c (procedureResult c (p .constructor) (p .result .0))
+
+    pub function-id-alone : scope ≡ 0 → opened ⨾ ruled c t (holding call m) first ⨾ ruled c t (holding call m) (rest []) ≡ walked c t h (functionId scope i name)
     function-id-alone g =
-        ap (λ (x : Trace Refusal). opened ⨾ x)
-        (scoped-none c t (holding call m) (p .result .0) (p .arguments .0) scope (p .constructor) v none name g a b)
+        ap (λ (x : Trace Refusal). opened ⨾ x) (scoped-none c t (holding call m) (p .result .0) (p .arguments .0) scope (p .constructor) name g)
         ∙ function-id-good scope i name r m l z e p f
 
     pub function-id-scoped : (scope ≡ 0 → ⊥)
-        → opened ⨾ ruled c t (holding call m) (result c none (p .result .0)) ⨾ walked c t h (idOf scope) ⨾ ruled c t (holding call m) (rest (bytes "::"))
+        → opened ⨾ ruled c t (holding call m) first ⨾ walked c t h (idOf scope) ⨾ ruled c t (holding call m) (rest (bytes "::"))
         ≡ walked c t h (functionId scope i name)
     function-id-scoped g =
-        ap
-        (λ (x : Trace Refusal). opened ⨾ ruled c t (holding call m) (result c none (p .result .0)) ⨾ x ⨾ ruled c t (holding call m) (rest (bytes "::")))
-        (id-held m scope)
-        ∙ ap (λ (x : Trace Refusal). opened ⨾ x)
-        (scoped c t (holding call m) (p .result .0) (p .arguments .0) scope (p .constructor) v none name g a b)
+        ap (λ (x : Trace Refusal). opened ⨾ ruled c t (holding call m) first ⨾ x ⨾ ruled c t (holding call m) (rest (bytes "::"))) (id-held m scope)
+        ∙ ap (λ (x : Trace Refusal). opened ⨾ x) (scoped c t (holding call m) (p .result .0) (p .arguments .0) scope (p .constructor) name g)
         ∙ function-id-good scope i name r m l z e p f
+
+-- The end of a signature, by the bytes of its name.
+pub end-named : (c : Settings) (t : Table) (h : Held) (before bs name : List ℕ) (list : ℕ) → bs ≡ name
+    → ruled c t h (seq (write before) (seq (write (functionName bs)) (procedureArguments c list)))
+    ≡ ruled c t h (seq (write before) (seq (write (functionName name)) (procedureArguments c list)))
+end-named c t h before bs name list e = rw e
 
 -- The id behind its own count: what the writers do for the call with one id more.
 inner-is : (s d : List ℕ) (call k : Call) (p : Settings → Rule) → k ≡ further call
@@ -501,11 +502,11 @@ module _ (s d : List ℕ) (call k : Call) (i : ℕ) (r : IdRead) (x : IdData) (e
   id-other n =
       ap (λ (p : Rule). step ⨾ ruled (settingsOf k) (tableIn s d k) (holding k []) p) (other-id (settingsOf k) d x n) ∙ id-in
 
-  pub id-function : (w : FunctionId) (y : Trace Refusal) (bs : List ℕ) → x ≡ id.Function w → bs ≡ nameAt d (w .name)
-      → y ≡ walked (settingsOf k) (tableIn s d k) (holding k []) (functionId (w .scope .0) (w .function .0) bs)
+  pub id-function : (w : FunctionId) (y : Trace Refusal) → x ≡ id.Function w
+      → y ≡ walked (settingsOf k) (tableIn s d k) (holding k []) (functionId (w .scope .0) (w .function .0) (nameAt d (w .name)))
       → step ⨾ y ≡ walked (settingsOf call) (tableIn s d call) (holding call []) (idOf i)
   unfolding ruled exec idText idContents
-  id-function w y bs a n b = rw (b, n) (rw a at id-in)
+  id-function w y a b = rw b (rw a at id-in)
 
 -- The allowance and the chain are 32 together.
 pub chained : (call k : Call) (n : ℕ) → k ≡ further call → (call .chain + 1) + n ≡ 32 → k .chain + n ≡ 32

@@ -8,7 +8,7 @@ ghost use Rattle.rules.specs.Text.{functionName};
 ghost use Rattle.wire.specs.Text.{bytes};
 ghost use Rattle.reading.specs.Trace as trace;
 ghost use Rattle.rules.specs.Record.{idContents, nameAt, numbersAt};
-ghost use Rattle.rules.specs.Rules.{byItself, functionOf, idOf, memberId, procedureArguments, methodNamed, stringEntries};
+ghost use Rattle.rules.specs.Rules.{byItself, functionOf, idOf, memberId, procedureResult, returned, procedureArguments, methodNamed, procedureNamed, stringEntries};
 ghost use Rattle.pen.specs.Page.{page, Wrote};
 ghost use Rattle.context.specs.Context.{settingsOf};
 ghost use Rattle.type_writers.specs.Walking.{walking, ruling, methodOf};
@@ -17,6 +17,7 @@ use codeview::ids::id_at;
 use codeview::index::IdIndex;
 use codeview::index::TypeIndex;
 use codeview::record::Entries;
+use codeview::record::FunctionId;
 use codeview::record::IdData;
 use codeview::record::IdRead;
 use codeview::record::MemberFunctionId;
@@ -128,6 +129,70 @@ fn emit_procedure_end(
     pen::text(out, d, b")")
 }
 
+// A procedure's result, unless there is none to write.
+fn emit_result(
+    types: &[u8],
+    ids: &[u8],
+    out: &mut [u8],
+    p: Pen,
+    call: Call,
+    seen: &[u64],
+    x: ProcedureType,
+) -> Pen
+    ensures { λ r. ⌜ Wrote (page (now (out .entry)) p) (ruling (now (types .entry)) (now (ids .entry)) call (now (seen .entry)) (returned (settingsOf call) (procedureResult (settingsOf call) (x .constructor) (x .result .0)))) (page (now (out .exit)) r) ⌝ }
+{
+    let result = x.result;
+    let none = hides_return(call, is_void(x.constructor, result));
+    emit_return_type(types, ids, out, p, call, seen, none, result)
+}
+
+// A procedure by its name.
+fn emit_procedure(
+    types: &[u8],
+    ids: &[u8],
+    out: &mut [u8],
+    p: Pen,
+    call: Call,
+    seen: &[u64],
+    name: &[u8],
+    x: ProcedureType,
+) -> Pen
+    ensures { λ r. ⌜ Wrote (page (now (out .entry)) p) (ruling (now (types .entry)) (now (ids .entry)) call (now (seen .entry)) (procedureNamed (settingsOf call) (x .result .0) (x .constructor) (x .arguments .0) (write []) (now (name .entry)))) (page (now (out .exit)) r) ⌝ }
+{
+    let list = x.arguments;
+    let a = emit_result(types, ids, out, p, call, seen, x);
+    emit_procedure_end(types, ids, out, a, call, seen, b"", name, list)
+}
+
+// The name and the arguments of a function id.
+fn emit_id_end(
+    types: &[u8],
+    ids: &[u8],
+    out: &mut [u8],
+    p: Pen,
+    call: Call,
+    seen: &[u64],
+    before: &[u8],
+    f: FunctionId,
+    x: ProcedureType,
+) -> Pen
+    ensures { λ r. ⌜ Wrote (page (now (out .entry)) p) (ruling (now (types .entry)) (now (ids .entry)) call (now (seen .entry)) (seq (write (now (before .entry))) (seq (write (functionName (nameAt (now (ids .entry)) (f .name)))) (procedureArguments (settingsOf call) (x .arguments .0))))) (page (now (out .exit)) r) ⌝ }
+{
+    let list = x.arguments;
+    let name = f.name;
+    emit_procedure_end(
+        types,
+        ids,
+        out,
+        p,
+        call,
+        seen,
+        before,
+        name_of(ids, name),
+        list,
+    )
+}
+
 // A function by its name and type: the type is opened, then read. Type 0 writes only the name, and so does a type that is no function's.
 pub fn emit_function(
     types: &[u8],
@@ -160,13 +225,7 @@ pub fn emit_function(
                 name,
                 m,
             ),
-            TypeData::Procedure(x) => {
-                let result = x.result;
-                let hidden = hides_return(call, is_void(x.constructor, result));
-                let a = emit_return_type(types, ids, out, q, call, &list[..n], hidden, result);
-                let arguments = x.arguments;
-                emit_procedure_end(types, ids, out, a, call, &list[..n], b"", name, arguments)
-            }
+            TypeData::Procedure(x) => emit_procedure(types, ids, out, q, call, &list[..n], name, x),
             _ => pen::text(out, q, name),
         },
         TypeRead::Refused(f) => pen::unread(out, q, f),
@@ -331,36 +390,12 @@ pub fn emit_id(
             match procedure_at(types, stream, function) {
                 ProcedureRead::Good(x) => {
                     let scope = f.scope;
-                    let name = f.name;
-                    let result = x.result;
-                    let arguments = x.arguments;
-                    let hidden = hides_return(inner, is_void(x.constructor, result));
-                    let a = emit_return_type(types, ids, out, q, inner, &list[..n], hidden, result);
+                    let a = emit_result(types, ids, out, q, inner, &list[..n], x);
                     if scope.0 == 0 {
-                        return emit_procedure_end(
-                            types,
-                            ids,
-                            out,
-                            a,
-                            inner,
-                            &list[..n],
-                            b"",
-                            name_of(ids, name),
-                            arguments,
-                        );
+                        return emit_id_end(types, ids, out, a, inner, &list[..n], b"", f, x);
                     }
                     let b = emit_id(types, ids, out, a, inner, allowance - 1, scope);
-                    emit_procedure_end(
-                        types,
-                        ids,
-                        out,
-                        b,
-                        inner,
-                        &list[..n],
-                        b"::",
-                        name_of(ids, name),
-                        arguments,
-                    )
+                    emit_id_end(types, ids, out, b, inner, &list[..n], b"::", f, x)
                 }
                 ProcedureRead::Refused(f) => pen::unread(out, q, f),
             }

@@ -15,13 +15,10 @@ use Rattle.id_writers.proofs.emit_function.Lts as lts
 use Rattle.codeview.proofs.types.type_at.Reads as type-at-reads
 use Rattle.context.proofs.seen.insert.Reads as insert-reads
 use Rattle.id_writers.proofs.emit_method.Reads as emit-method-reads
-use Rattle.id_writers.proofs.emit_procedure_end.Reads as emit-procedure-end-reads
+use Rattle.id_writers.proofs.emit_procedure.Reads as emit-procedure-reads
 use Rattle.pen.proofs.text.Reads as text-reads
 use Rattle.pen.proofs.tick.Reads as tick-reads
 use Rattle.pen.proofs.unread.Reads as unread-reads
-use Rattle.pieces.proofs.hides_return.Reads as hides-return-reads
-use Rattle.pieces.proofs.is_void.Reads as is-void-reads
-use Rattle.type_writers.proofs.emit_return_type.Reads as emit-return-type-reads
 use Rattle.writers.proofs.names.emit_name_str.Reads as emit-name-str-reads
 
 emit-name-str-requires : tie.Need-emit-name-str-requires
@@ -69,32 +66,14 @@ emit-method-requires c κs = search needs
 enum-known-t-3 : tie.Need-enum-known-t-3
 enum-known-t-3 c = search needs
 
-is-void-requires : tie.Need-is-void-requires
-is-void-requires c κs = search needs
-
-hides-return-requires : tie.Need-hides-return-requires
-hides-return-requires c κs = search needs
-
 array-share-prefix-list-2 : tie.Need-array-share-prefix-list-2
-array-share-prefix-list-2 c = omega (arith, c .before .before .before .before .before .before .before .before .before .before .before .before .before .before .before .insert .ensures .1)
+array-share-prefix-list-2 c = omega (arith, c .before .before .before .before .before .before .before .before .before .before .before .before .insert .ensures .1)
 
-slice-aggregate-emit-return-type : tie.Need-slice-aggregate-emit-return-type
-slice-aggregate-emit-return-type c = c .before .before .before .before .before .before .before .before .before .before .before .before .before .before .before .before .insert .ensures .1 ∙ sym (pushed-length _ _ _ (c .before .before .before .before .before .before .before .before .before .before .before .before .before .before .before .before .insert .ensures .2))
+slice-aggregate-emit-procedure : tie.Need-slice-aggregate-emit-procedure
+slice-aggregate-emit-procedure c = c .before .before .before .before .before .before .before .before .before .before .before .before .before .insert .ensures .1 ∙ sym (pushed-length _ _ _ (c .before .before .before .before .before .before .before .before .before .before .before .before .before .insert .ensures .2))
 
-emit-return-type-requires : tie.Need-emit-return-type-requires
-emit-return-type-requires c κs = search needs
-
-array-share-prefix-list-3 : tie.Need-array-share-prefix-list-3
-array-share-prefix-list-3 c = let k : c .before .before .before .before .before .before .before .before .before .before .before .before .before .before .before .before .before .before .before .before .before .insert .result ≤ length (c .before .before .before .before .before .before .before .before .before .before .before .before .before .before .before .before .before .before .before .before .before .insert .last .0) = omega (arith, c .before .before .before .before .before .before .before .before .before .before .before .before .before .before .before .before .before .before .before .before .before .insert .ensures .0, c .before .before .before .before .before .before .before .before .before .before .before .before .before .before .before .before .before .before .before .before .before .insert .ensures .1) in k
-
-slice-aggregate-emit-procedure-end : tie.Need-slice-aggregate-emit-procedure-end
-slice-aggregate-emit-procedure-end c = c .before .before .before .before .before .before .before .before .before .before .before .before .before .before .before .before .before .before .before .before .before .before .insert .ensures .1 ∙ sym (pushed-length _ _ _ (c .before .before .before .before .before .before .before .before .before .before .before .before .before .before .before .before .before .before .before .before .before .before .insert .ensures .2))
-
-slice-aggregate-emit-procedure-end-2 : tie.Need-slice-aggregate-emit-procedure-end-2
-slice-aggregate-emit-procedure-end-2 c = search needs
-
-emit-procedure-end-requires : tie.Need-emit-procedure-end-requires
-emit-procedure-end-requires c κs = search needs
+emit-procedure-requires : tie.Need-emit-procedure-requires
+emit-procedure-requires c κs = search needs
 
 text-requires : tie.Need-text-requires
 text-requires c κs = search needs
@@ -112,10 +91,10 @@ returns-2 : tie.Need-returns-2
 returns-2 c = wrote-by (c .before .before .before .before .before .before .before .before .before .before .before .before .before .tick .ensures ▸ c .before .before .emit-method .ensures) (function-method _ _ _ _ _ (c .before .before .before .before .before .before .before .before .before .before .before .before .before .before .before .before .before .before .before .if1 .left) _ _ (search (c .before .before .before .before .before .before .before .before .before .before .before .before .before .before .before .before .before .before .before .before .before .before .before .before .before .good .1 .1 .1 .1 .1 .1 .0, needs)) (c .before .before .before .before .before .before .before .before .before .before .before .before .before .before .before .before .insert .ensures .2) (c .before .before .before .before .before .before .before .before .before .before .before .type-at .ensures) _ _ (c .before .before .before .before .before .before .before .before .before .t .given .1) (c .before .before .before .before .before .before .t2 .given .1))
 
 same-length-3 : tie.Need-same-length-3
-same-length-3 c = wrote-length (c .before .before .before .before .before .before .before .before .before .emit-return-type .ensures ▸ c .before .before .emit-procedure-end .ensures)
+same-length-3 c = wrote-length (c .before .before .emit-procedure .ensures)
 
 returns-3 : tie.Need-returns-3
-returns-3 c = wrote-by (c .before .before .before .before .before .before .before .before .before .before .before .before .before .before .before .before .before .before .before .before .before .before .before .tick .ensures ▸ c .before .before .before .before .before .before .before .before .before .emit-return-type .ensures ▸ c .before .before .emit-procedure-end .ensures) (function-procedure _ _ _ _ _ (c .before .before .before .before .before .before .before .before .before .before .before .before .before .before .before .before .before .before .before .before .before .before .before .before .before .before .before .before .before .if1 .left) _ _ (search (c .before .before .before .before .before .before .before .before .before .before .before .before .before .before .before .before .before .before .before .before .before .before .before .before .before .before .before .before .before .before .before .before .before .before .before .good .1 .1 .1 .1 .1 .1 .0, needs)) (c .before .before .before .before .before .before .before .before .before .before .before .before .before .before .before .before .before .before .before .before .before .before .before .before .before .before .insert .ensures .2) (c .before .before .before .before .before .before .before .before .before .before .before .before .before .before .before .before .before .before .before .before .before .type-at .ensures) _ _ _ _ (c .before .before .before .before .before .before .before .before .before .before .before .before .before .before .before .before .before .before .before .t .given .1) (c .before .before .before .before .before .before .before .before .before .before .before .before .before .before .before .before .t3 .given .1) (c .before .before .before .before .before .before .before .before .before .before .before .before .before .is-void .ensures) (c .before .before .before .before .before .before .before .before .before .before .before .before .hides-return .ensures))
+returns-3 c = wrote-by (c .before .before .before .before .before .before .before .before .before .before .before .before .before .tick .ensures ▸ c .before .before .emit-procedure .ensures) (function-procedure _ _ _ _ _ (c .before .before .before .before .before .before .before .before .before .before .before .before .before .before .before .before .before .before .before .if1 .left) _ _ (search (c .before .before .before .before .before .before .before .before .before .before .before .before .before .before .before .before .before .before .before .before .before .before .before .before .before .good .1 .1 .1 .1 .1 .1 .0, needs)) (c .before .before .before .before .before .before .before .before .before .before .before .before .before .before .before .before .insert .ensures .2) (c .before .before .before .before .before .before .before .before .before .before .before .type-at .ensures) _ _ (c .before .before .before .before .before .before .before .before .before .t .given .1) (c .before .before .before .before .before .before .t3 .given .1))
 
 same-length-4 : tie.Need-same-length-4
 same-length-4 c = wrote-length (c .before .before .text .ensures)
@@ -148,15 +127,9 @@ emit-function-spec =
     slice-aggregate-emit-method
     emit-method-requires
     enum-known-t-3
-    is-void-requires
-    hides-return-requires
     array-share-prefix-list-2
-    slice-aggregate-emit-return-type
-    emit-return-type-requires
-    array-share-prefix-list-3
-    slice-aggregate-emit-procedure-end
-    slice-aggregate-emit-procedure-end-2
-    emit-procedure-end-requires
+    slice-aggregate-emit-procedure
+    emit-procedure-requires
     text-requires
     enum-known-f
     unread-requires

@@ -7,18 +7,15 @@ use Rattle.id_writers.proofs.emit_id.Kinds as emit-id-kinds
 use Rattle.codeview.proofs.ids.id_at.Reads as id-at-reads
 use Rattle.context.proofs.seen.insert.Reads as insert-reads
 use Rattle.id_writers.proofs.deeper.Reads as deeper-reads
+use Rattle.id_writers.proofs.emit_id_end.Reads as emit-id-end-reads
 use Rattle.id_writers.proofs.emit_other_id.Reads as emit-other-id-reads
-use Rattle.id_writers.proofs.emit_procedure_end.Reads as emit-procedure-end-reads
+use Rattle.id_writers.proofs.emit_result.Reads as emit-result-reads
 use Rattle.id_writers.proofs.procedure_at.Reads as procedure-at-reads
 use Rattle.pen.proofs.is_idle.Reads as is-idle-reads
 use Rattle.pen.proofs.tick.Reads as tick-reads
 use Rattle.pen.proofs.too_long.Reads as too-long-reads
 use Rattle.pen.proofs.unread.Reads as unread-reads
-use Rattle.pieces.proofs.hides_return.Reads as hides-return-reads
-use Rattle.pieces.proofs.is_void.Reads as is-void-reads
-use Rattle.type_writers.proofs.emit_return_type.Reads as emit-return-type-reads
 use Rattle.writers.proofs.marks.mark.Reads as mark-reads
-use Rattle.writers.proofs.names.name_of.Reads as name-of-reads
 
 abbrev pub μ-emit-id : Measures 3 emit-id-kinds.ps ℕ
 μ-emit-id κs a = a .1 .1 .1 .1 .1 .0

@@ -1,0 +1,36 @@
+-- The parts one after another, as the rule has them.
+-- Assumes nothing.
+use borrow.Author.Needs.{needs}
+use Rattle.pen.proofs.Laws.{_▸_, wrote-by, wrote-length}
+use Rattle.id_writers.proofs.Laws.{procedure-named}
+use Rattle.id_writers.proofs.emit_procedure.Statement.{statement}
+use Rattle.id_writers.proofs.emit_procedure.Tie as tie
+use Rattle.id_writers.proofs.emit_procedure.Reads as reads
+use Rattle.id_writers.proofs.emit_procedure.Lts as lts
+use Rattle.id_writers.proofs.emit_procedure_end.Reads as emit-procedure-end-reads
+use Rattle.id_writers.proofs.emit_result.Reads as emit-result-reads
+
+emit-result-requires : tie.Need-emit-result-requires
+emit-result-requires c κs = search needs
+
+slice-aggregate-emit-procedure-end : tie.Need-slice-aggregate-emit-procedure-end
+slice-aggregate-emit-procedure-end c = search needs
+
+emit-procedure-end-requires : tie.Need-emit-procedure-end-requires
+emit-procedure-end-requires c κs = search needs
+
+same-length : tie.Need-same-length
+same-length c = wrote-length (c .before .before .before .before .before .before .before .emit-result .ensures ▸ c .before .before .emit-procedure-end .ensures)
+
+returns : tie.Need-returns
+returns c = wrote-by (c .before .before .before .before .before .before .before .emit-result .ensures ▸ c .before .before .emit-procedure-end .ensures) (procedure-named _ _ _ (c .before .before .before .before .before .before .before .before .before .before .before .before .before .before .before .args .x .result .0) (c .before .before .before .before .before .before .before .before .before .before .before .before .before .before .before .args .x .arguments .0) (c .before .before .before .before .before .before .before .before .before .before .before .before .before .before .before .args .x .constructor) _ _)
+
+pub emit-procedure-spec : {M : Type 1} → statement M
+emit-procedure-spec =
+    tie.close
+    (tie.spec
+    emit-result-requires
+    slice-aggregate-emit-procedure-end
+    emit-procedure-end-requires
+    same-length
+    returns)
