@@ -1,0 +1,148 @@
+#!/usr/bin/env python3
+"""Time and stack of the calls, by the program `cases` (see crates/cases/data/README.md for its files).
+
+    rt check cases
+    tools/bench.py target/bin/cases
+
+Time: a call on a stream of n records is asked for many times, and the time of a run with no call is taken off. Every call walks the record heads once
+for the check; a look-up walks them up to its record. Stack: the least limit under which the deepest streams that the rules allow are read, less the
+least limit for a pointer to int. Each is a row of 94 to 96 open indexes.
+"""
+import os, resource, struct, subprocess, sys, tempfile, time
+
+FIRST = 0x1000
+
+
+def record(kind, fields):
+    b = struct.pack("<H", kind) + fields
+    return struct.pack("<H", len(b)) + b
+
+
+def stream(records):
+    body = b"".join(records)
+    return struct.pack("<5I", 20040203, 56, FIRST, FIRST + len(records), len(body)) + bytes(36) + body
+
+
+def pointer(t):
+    return record(0x1002, struct.pack("<II", t, 8 << 13 | 12))
+
+
+def modifier(t):
+    return record(0x1001, struct.pack("<IH", t, 1))
+
+
+def procedure(result, arguments):
+    return record(0x1008, struct.pack("<IBBHI", result, 0, 0, 1, arguments))
+
+
+def method(result, cls, this, arguments):
+    return record(0x1009, struct.pack("<IIIBBHII", result, cls, this, 0, 0, 1, arguments, 0))
+
+
+def arguments(*entries):
+    return record(0x1201, struct.pack("<I", len(entries)) + b"".join(struct.pack("<I", e) for e in entries))
+
+
+def array(t, size):
+    return record(0x1503, struct.pack("<IIH", t, 0x23, size) + b"\0")
+
+
+def struct_(name, forward):
+    return record(0x1505, struct.pack("<HHIIIH", 0, 0x80 if forward else 0, 0, 0, 0, 0 if forward else 24) + name + b"\0")
+
+
+def rows(n, make):
+    """n groups of records, each made from its own index and the index of the next group; then a pointer to int."""
+    out = []
+    for _ in range(n):
+        out += make(FIRST + len(out))
+    return stream(out + [pointer(0x74)])
+
+
+DEEP = {
+    "pointers": rows(94, lambda i: [pointer(i + 1)]),
+    "procedures": rows(47, lambda i: [procedure(3, i + 1), arguments(i + 2)]),
+    "pointers to procedures": rows(31, lambda i: [pointer(i + 1), procedure(3, i + 2), arguments(i + 3)]),
+    "pointers to methods": rows(31, lambda i: [pointer(i + 1), method(3, 0x74, 0, i + 2), arguments(i + 3)]),
+    "methods": rows(47, lambda i: [method(3, 0x74, 0, i + 1), arguments(i + 2)]),
+    "modifiers of arrays": rows(93, lambda i: [modifier(i + 1), array(i + 2, 8)]),
+    "pointers to arrays": rows(47, lambda i: [pointer(i + 1), array(i + 2, 8)]),
+    "modifiers of pointers": rows(47, lambda i: [modifier(i + 1), pointer(i + 2)]),
+}
+
+
+def put(folder, name, types, calls):
+    open(f"{folder}/{name}-types.bin", "wb").write(types)
+    open(f"{folder}/{name}-calls.bin", "wb").write(calls)
+
+
+def run(program, folder, name, stack=None):
+    def limit():
+        if stack:
+            resource.setrlimit(resource.RLIMIT_STACK, (stack * 1024, stack * 1024))
+
+    return subprocess.run([program, name], cwd=folder, stdout=subprocess.PIPE, stderr=subprocess.DEVNULL, preexec_fn=limit)
+
+
+def least_stack(program, folder, name):
+    """The least stack in KiB under which the program gives the text."""
+    low, high = 32, 8192
+    while high - low > 4:
+        middle = (low + high) // 2
+        r = run(program, folder, name, middle)
+        if r.returncode == 0 and b" 0 0x0 " in r.stdout:
+            high = middle
+        else:
+            low = middle
+    return high
+
+
+def seconds(program, folder, name):
+    best = None
+    for _ in range(3):
+        t = time.perf_counter()
+        run(program, folder, name)
+        d = time.perf_counter() - t
+        best = d if best is None else min(best, d)
+    return best
+
+
+def timed(program, folder):
+    print("microseconds for one call")
+    calls = 2000
+    for n in (500, 2000, 8000):
+        filler = [record(0x1203, b"") for _ in range(n)]
+        types = stream([struct_(b"A", True), procedure(0x74, FIRST + 2), arguments(0x74, 0x40, FIRST)] + filler + [struct_(b"A", False), pointer(0x74)])
+        last = FIRST + 3 + n + 1
+        put(folder, "idle", types, b"")
+        base = seconds(program, folder, "idle")
+        for label, call in (
+            ("a primitive", struct.pack("<BI", 0x10, 0x74)),
+            ("the first record", struct.pack("<BI", 0x10, FIRST)),
+            ("the last record", struct.pack("<BI", 0x10, last)),
+            ("a function of three arguments", struct.pack("<BIB", 0x13, FIRST + 1, 4) + b"step"),
+            ("the size of a forward reference, found last", struct.pack("<BI", 0x11, FIRST)),
+        ):
+            put(folder, "asked", types, call * calls)
+            spent = seconds(program, folder, "asked") - base
+            print(f"  {n + 5:6} records, {len(types):6} bytes, {label}: {spent / calls * 1e6:.1f}")
+
+
+def deep(program, folder):
+    print("KiB of stack")
+    put(folder, "shallow", stream([pointer(0x74)]), struct.pack("<BI", 0x10, FIRST))
+    base = least_stack(program, folder, "shallow")
+    print(f"  the program with a pointer to int: {base}")
+    for label, types in DEEP.items():
+        put(folder, "deep", types, struct.pack("<BI", 0x10, FIRST))
+        print(f"  {label}: {least_stack(program, folder, 'deep') - base} more")
+
+
+def main():
+    program = os.path.abspath(sys.argv[1])
+    with tempfile.TemporaryDirectory() as folder:
+        timed(program, folder)
+        deep(program, folder)
+
+
+main()
