@@ -66,7 +66,7 @@ DEEP = {
     "pointers to methods": rows(31, lambda i: [pointer(i + 1), method(3, 0x74, 0, i + 2), arguments(i + 3)]),
     "methods": rows(47, lambda i: [method(3, 0x74, 0, i + 1), arguments(i + 2)]),
     "modifiers of arrays": rows(93, lambda i: [modifier(i + 1), array(i + 2, 8)]),
-    "pointers to arrays": rows(47, lambda i: [pointer(i + 1), array(i + 2, 8)]),
+    "pointers to arrays": rows(94, lambda i: [pointer(i + 1), array(i + 2, 8)]),
     "modifiers of pointers": rows(47, lambda i: [modifier(i + 1), pointer(i + 2)]),
 }
 

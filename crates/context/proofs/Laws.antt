@@ -11,9 +11,11 @@ use native.Mathlib.Numerals.{add-one}
 use native.Mathlib.Omega.{arith}
 use borrow.Author.Tests.{eq-eqb, ne-eqb, lt-leb, le-leb}
 use Rattle.reading.specs.Trace.{Key, key}
-use Rattle.rules.specs.Text.{overPointee}
+use Rattle.rules.specs.Text.{Level, level, overPointee}
+use Rattle.codeview.specs.declared.record.PointerMode.{PointerMode}
 use Rattle.context.specs.declared.levels.PtrAttributes.{PtrAttributes}
-use Rattle.context.specs.Context.{keyOf, keysOf, hasIndex, entryNo, levelOf}
+use Rattle.codeview.specs.declared.record.PointerMode.the-variants as mode
+use Rattle.context.specs.Context.{keyOf, keysOf, hasIndex, entryNo, flagsByte, modeByte, modeAt, levelOf, levelAt}
 
 -- one step of a search
 pub has-here : (l : List ℕ) (n i : ℕ) → n < length l → getD l n 0 % 4_294_967_296 ≡ i → hasIndex i (keysOf (drop n l)) ≡ true
@@ -94,21 +96,68 @@ room-is l n k = by (decLt 0 n)
     by (yes e) = let m : length (drop n l) < 32 = simp length-drop (omega arith) in let z : n ≡ 0 → ⊥ = λ z. omega arith in simp (ne-eqb _ _ z, lt-leb 32 _ m)
     by (no e) = let m : 32 ≤ length (drop n l) = simp length-drop (omega arith) in let z : n ≡ 0 = omega arith in simp (eq-eqb _ _ z, le-leb 32 _ m)
 
--- how long an array of structs is, from what owning it says
-pub long-mapped : (A B : Type 0) (f : A → B) (l : List A) (n : ℕ) → length (map f l) ≡ n → length l ≡ n
-long-mapped A B f l n h = sym (length-map l f) ∙ h
+-- a level is packed and taken apart again
+pub unpacked : (c p : Bool) (m : PointerMode) → levelAt (flagsByte c p + modeByte m) ≡ level c p m
+unfolding levelAt flagsByte modeByte modeAt
+unpacked false false mode.Pointer = refl
+unpacked false false mode.LValueReference = refl
+unpacked false false mode.Member = refl
+unpacked false false mode.MemberFunction = refl
+unpacked false false mode.RValueReference = refl
+unpacked false true mode.Pointer = refl
+unpacked false true mode.LValueReference = refl
+unpacked false true mode.Member = refl
+unpacked false true mode.MemberFunction = refl
+unpacked false true mode.RValueReference = refl
+unpacked true false mode.Pointer = refl
+unpacked true false mode.LValueReference = refl
+unpacked true false mode.Member = refl
+unpacked true false mode.MemberFunction = refl
+unpacked true false mode.RValueReference = refl
+unpacked true true mode.Pointer = refl
+unpacked true true mode.LValueReference = refl
+unpacked true true mode.Member = refl
+unpacked true true mode.MemberFunction = refl
+unpacked true true mode.RValueReference = refl
 
 -- a push of a level
-pub levels-push : (l : List PtrAttributes) (n : ℕ) (x : PtrAttributes) → 0 < n → n ≤ length l
-    → map levelOf (drop (n - 1) (set l (n - 1) x)) ≡ levelOf x ∷ map levelOf (drop n l)
-levels-push l n x h k = rw (drop-push l n x h k)
+pub levels-push : (l : List ℕ) (n x : ℕ) (v : Level) → 0 < n → n ≤ length l → levelAt x ≡ v
+    → map levelAt (drop (n - 1) (set l (n - 1) x)) ≡ v ∷ map levelAt (drop n l)
+levels-push l n x v h k e = rw (drop-push l n x h k, ← e)
 
 -- a change of the newest level, and of none
-pub over-newest : (l : List PtrAttributes) (n : ℕ) (d : PtrAttributes) (c : Bool) → n < length l
-    → map levelOf (drop n (set l n (record { constant = getD l n d .constant; pointee = c; mode = getD l n d .mode }))) ≡ overPointee c (map levelOf (drop n l))
+pub over-newest : (l : List ℕ) (n x : ℕ) (c : Bool) → n < length l → levelAt x ≡ level (levelAt (getD l n 0) .constant) c (levelAt (getD l n 0) .mode)
+    → map levelAt (drop n (set l n x)) ≡ overPointee c (map levelAt (drop n l))
 unfolding overPointee
-over-newest l n d c h = rw (drop-set l n _ h, drop-cons l n d h, add-one)
+over-newest l n x c h e = rw (drop-set l n x h, drop-cons l n 0 h, add-one, e)
 
-pub over-none : (l : List PtrAttributes) (n : ℕ) (c : Bool) → length l ≤ n → map levelOf (drop n l) ≡ overPointee c (map levelOf (drop n l))
+pub over-none : (l : List ℕ) (n : ℕ) (c : Bool) → length l ≤ n → map levelAt (drop n l) ≡ overPointee c (map levelAt (drop n l))
 unfolding overPointee
 over-none l n c h = rw (drop-of-length-le l h)
+
+pub over-read : (r : PtrAttributes) (b : ℕ) (c : Bool) → levelOf r ≡ levelAt b → level (r .constant) c (r .mode) ≡ level (levelAt b .constant) c (levelAt b .mode)
+over-read r b c e = ap (λ (l : Level). level (l .constant) c (l .mode)) e
+
+-- the five modes
+pub mode-first : (n : ℕ) → n ≡ 0 → mode.Pointer ≡ modeAt n
+unfolding modeAt
+mode-first n e = rw e
+
+pub mode-second : (n : ℕ) → n ≡ 1 → mode.LValueReference ≡ modeAt n
+unfolding modeAt
+mode-second n e = rw e
+
+pub mode-third : (n : ℕ) → n ≡ 2 → mode.Member ≡ modeAt n
+unfolding modeAt
+mode-third n e = rw e
+
+pub mode-fourth : (n : ℕ) → n ≡ 3 → mode.MemberFunction ≡ modeAt n
+unfolding modeAt
+mode-fourth n e = rw e
+
+pub mode-fifth : (n : ℕ) → (n ≡ 0 → ⊥) → (n ≡ 1 → ⊥) → (n ≡ 2 → ⊥) → (n ≡ 3 → ⊥) → mode.RValueReference ≡ modeAt n
+unfolding modeAt
+mode-fifth n a b c d = rw (ne-eqb n 0 a, ne-eqb n 1 b, ne-eqb n 2 c, ne-eqb n 3 d)
+
+pub byte-as : (m n : PointerMode) → m ≡ n → modeByte n ≡ modeByte m
+byte-as m n e = rw e

@@ -7,6 +7,8 @@ use lib.ListN.{drop, length}
 use lib.Dec.{eqb, leb, ltb}
 use Rattle.wire.specs.Field.{pick}
 use Rattle.streams.specs.declared.refusal.Refusal.the-variants.{UnknownFlags}
+use Rattle.codeview.specs.declared.record.PointerMode.{PointerMode}
+use Rattle.codeview.specs.declared.record.PointerMode.the-variants as mode
 use Rattle.reading.specs.Trace.{Key, key, Held, held}
 use Rattle.rules.specs.Flags.{Settings, settings}
 use Rattle.rules.specs.Record.{Table, tableOf}
@@ -63,8 +65,32 @@ pub record Entering (seen : List ℕ) (i r : ℕ) : Type 0 where
 abbrev pub levelOf : PtrAttributes → Level
 levelOf l = level (l .constant) (l .pointee) (l .mode)
 
+-- A level in one byte: bit 0 is its const, bit 1 the const of what is pointed to, and above them is the mode.
+unfoldable pub flagsByte : Bool → Bool → ℕ
+flagsByte false false = 0
+flagsByte true false = 1
+flagsByte false true = 2
+flagsByte true true = 3
+
+unfoldable pub modeByte : PointerMode → ℕ
+modeByte mode.Pointer = 0
+modeByte mode.LValueReference = 4
+modeByte mode.Member = 8
+modeByte mode.MemberFunction = 12
+modeByte mode.RValueReference = 16
+
+unfoldable pub modeAt : ℕ → PointerMode
+modeAt n =
+    pick (eqb n 0) mode.Pointer
+    (pick (eqb n 1) mode.LValueReference
+    (pick (eqb n 2) mode.Member
+    (pick (eqb n 3) mode.MemberFunction mode.RValueReference)))
+
+unfoldable pub levelAt : ℕ → Level
+levelAt b = level (eqb (b % 2) 1) (eqb (b / 2 % 2) 1) (modeAt (b / 4))
+
 unfoldable pub levelsOf : Levels → List Level
-levelsOf o = map levelOf (drop (o .left) (o .items))
+levelsOf o = map levelAt (drop (o .left) (o .items))
 
 -- The byte sizes of an array's levels, the innermost first.
 unfoldable pub sizesOf : Dimensions → List ℕ

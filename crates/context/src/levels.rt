@@ -2,8 +2,8 @@
 ghost use mathlib.Core.Path.{_≡_};
 ghost use mathlib.Core.List.{[], _∷_};
 ghost use Prim.Native.Nat.{_-_, _≤_, _<_};
-ghost use Rattle.rules.specs.Text.{overPointee};
-ghost use Rattle.context.specs.Context.{levelOf, levelsOf, sizesOf, Room};
+ghost use Rattle.rules.specs.Text.{level, overPointee};
+ghost use Rattle.context.specs.Context.{flagsByte, modeByte, modeAt, levelOf, levelAt, levelsOf, sizesOf, Room};
 use codeview::record::PointerMode;
 
 pub struct PtrAttributes {
@@ -12,8 +12,9 @@ pub struct PtrAttributes {
     pub mode: PointerMode,
 }
 
+// Each level is packed in a byte, so that a stack of 96 is small: it is handed down by value.
 pub struct Levels {
-    pub items: [PtrAttributes; 96],
+    pub items: [u8; 96],
     pub left: usize,
 }
 
@@ -22,16 +23,75 @@ pub struct Dimensions {
     pub left: usize,
 }
 
+fn flags_byte(constant: bool, pointee: bool) -> u8
+    ensures { λ r. ⌜ (r ≡ flagsByte constant pointee) × (r ≤ 3) ⌝ }
+{
+    if constant {
+        if pointee {
+            return 3;
+        }
+        return 1;
+    }
+    if pointee {
+        return 2;
+    }
+    0
+}
+
+fn mode_byte(mode: PointerMode) -> u8
+    ensures { λ r. ⌜ (r ≡ modeByte mode) × (r ≤ 16) ⌝ }
+{
+    match mode {
+        PointerMode::Pointer => 0,
+        PointerMode::LValueReference => 4,
+        PointerMode::Member => 8,
+        PointerMode::MemberFunction => 12,
+        PointerMode::RValueReference => 16,
+    }
+}
+
+fn mode_of(n: u8) -> PointerMode
+    ensures { λ r. ⌜ r ≡ modeAt n ⌝ }
+{
+    if n == 0 {
+        return PointerMode::Pointer;
+    }
+    if n == 1 {
+        return PointerMode::LValueReference;
+    }
+    if n == 2 {
+        return PointerMode::Member;
+    }
+    if n == 3 {
+        return PointerMode::MemberFunction;
+    }
+    PointerMode::RValueReference
+}
+
+fn pack(constant: bool, pointee: bool, mode: PointerMode) -> u8
+    ensures { λ r. ⌜ levelAt r ≡ level constant pointee mode ⌝ }
+{
+    let flags = flags_byte(constant, pointee);
+    flags + mode_byte(mode)
+}
+
+// The level that a byte holds.
+pub fn unpack(b: u8) -> PtrAttributes
+    ensures { λ r. ⌜ levelOf r ≡ levelAt b ⌝ }
+{
+    let mode = mode_of(b / 4);
+    PtrAttributes {
+        constant: b % 2 == 1,
+        pointee: b / 2 % 2 == 1,
+        mode,
+    }
+}
+
 pub fn no_levels() -> Levels
     ensures { λ r. ⌜ (r .left ≡ 96) × (levelsOf r ≡ []) ⌝ }
 {
-    let l = PtrAttributes {
-        constant: false,
-        pointee: false,
-        mode: PointerMode::Pointer,
-    };
     Levels {
-        items: [l; 96],
+        items: [0; 96],
         left: 96,
     }
 }
@@ -42,8 +102,10 @@ pub fn push_level(o: Levels, l: PtrAttributes) -> Levels
     ensures { λ r. ⌜ (r .left ≡ o .left - 1) × (levelsOf r ≡ levelOf l ∷ levelsOf o) ⌝ }
 {
     let at = o.left - 1;
+    let mode = l.mode;
+    let b = pack(l.constant, l.pointee, mode);
     let mut a = o.items;
-    a[at] = l;
+    a[at] = b;
     Levels { items: a, left: at }
 }
 
@@ -54,13 +116,10 @@ pub fn over_pointee(o: Levels, constant: bool) -> Levels
     let at = o.left;
     let mut a = o.items;
     if at < 96 {
-        let l = a[at];
+        let l = unpack(a[at]);
         let mode = l.mode;
-        a[at] = PtrAttributes {
-            constant: l.constant,
-            pointee: constant,
-            mode,
-        };
+        let b = pack(l.constant, constant, mode);
+        a[at] = b;
         return Levels { items: a, left: at };
     }
     Levels { items: a, left: at }

@@ -17,7 +17,7 @@ use Rattle.rules.specs.Text.{primitiveName, primitiveText, worded, classText, s
 use Rattle.pen.specs.Page.{Page, page, ink, Wrote, say}
 use Rattle.pen.proofs.Laws.{ink-append, ink-nil, run-say}
 use Rattle.context.specs.declared.levels.PtrAttributes.{PtrAttributes}
-use Rattle.context.specs.Context.{levelOf}
+use Rattle.context.specs.Context.{levelOf, levelAt}
 use Rattle.parts.specs.Parts.{behindWord, constText, spaced, levelText}
 
 -- A text under a condition.
@@ -95,20 +95,20 @@ pub levels-more : (c : Settings) (free signed : Bool) (l : Level) (ls : List Lev
 unfolding levels levelText constText spaced
 levels-more c free signed l ls = simp append-assoc
 
-module _ (c : Settings) (free signed : Bool) (items : List PtrAttributes) (i : ℕ) where
-  levels-next : (d : PtrAttributes) → i < length items
-      → levels c free signed (map levelOf (drop i items))
-      ≡ levelText c free signed (levelOf (getD items i d)) ++ levels c true (not (getD items i d .constant)) (map levelOf (drop (i + 1) items))
-  levels-next d h = rw (add-one, drop-cons items i d h) (levels-more c free signed (levelOf (getD items i d)) _)
+module _ (c : Settings) (free signed : Bool) (items : List ℕ) (i : ℕ) where
+  levels-next : (l : PtrAttributes) → i < length items → levelOf l ≡ levelAt (getD items i 0)
+      → levels c free signed (map levelAt (drop i items))
+      ≡ levelText c free signed (levelOf l) ++ levels c true (not (l .constant)) (map levelAt (drop (i + 1) items))
+  levels-next l h e = rw (add-one, drop-cons items i 0 h, ← e) (levels-more c free signed (levelOf l) _)
 
   -- A turn of a loop over the levels, and its end.
-  pub levels-turn : (d : PtrAttributes) (all : List ℕ) (g h k : Page) → i < length items
-      → ink g (levels c free signed (map levelOf (drop i items))) ≡ ink k all
-      → Wrote g (say (levelText c free signed (levelOf (getD items i d)))) h
-      → ink h (levels c true (not (getD items i d .constant)) (map levelOf (drop (i + 1) items))) ≡ ink k all
-  levels-turn d all g h k lt e w =
-      rw (w .is, run-say) (ink-append (levelText c free signed (levelOf (getD items i d))) g _ ∙ ap (ink g) (sym (levels-next d lt)) ∙ e)
+  pub levels-turn : (l : PtrAttributes) (all : List ℕ) (g h k : Page) → i < length items → levelOf l ≡ levelAt (getD items i 0)
+      → ink g (levels c free signed (map levelAt (drop i items))) ≡ ink k all
+      → Wrote g (say (levelText c free signed (levelOf l))) h
+      → ink h (levels c true (not (l .constant)) (map levelAt (drop (i + 1) items))) ≡ ink k all
+  levels-turn l all g h k lt d e w =
+      rw (w .is, run-say) (ink-append (levelText c free signed (levelOf l)) g _ ∙ ap (ink g) (sym (levels-next l lt d)) ∙ e)
 
-  pub levels-end : (all : List ℕ) (g k : Page) → length items ≤ i → ink g (levels c free signed (map levelOf (drop i items))) ≡ ink k all → Wrote k (say all) g
+  pub levels-end : (all : List ℕ) (g k : Page) → length items ≤ i → ink g (levels c free signed (map levelAt (drop i items))) ≡ ink k all → Wrote k (say all) g
   unfolding levels
   levels-end all g k h e = record { is = (rw (drop-of-length-le items h, ink-nil) at e) ∙ sym (run-say k all) }

@@ -10,6 +10,7 @@ use codeview::record::PointerMode;
 use context::flags::Call;
 use context::levels::Levels;
 use context::levels::PtrAttributes;
+use context::levels::unpack;
 use pen::Pen;
 
 fn emit_sign(out: &mut [u8], p: Pen, mode: PointerMode) -> Pen
@@ -79,7 +80,7 @@ pub fn emit_attributes(
     let mut s = signed;
     let mut i = o.left;
     while i < 96 {
-        let l = items[i];
+        let l = unpack(items[i]);
         q = emit_level(out, q, call, f, s, l);
         f = true;
         s = !l.constant;

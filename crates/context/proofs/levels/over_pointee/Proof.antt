@@ -1,34 +1,39 @@
 -- The newest level is the one at `left`, if there is one; else nothing changes.
 -- Assumes nothing.
-use mathlib.Core.Path.{_≡_, refl}
-use lib.ListN.{length}
-use Rattle.context.specs.Context.{levelsOf}
-use Rattle.context.proofs.Laws.{long-mapped, over-newest, over-none}
-use native.Mathlib.Omega.{arith}
 use borrow.Author.Needs.{needs}
+use native.Mathlib.Omega.{arith}
+use Rattle.context.specs.Context.{levelsOf}
+use Rattle.context.proofs.Laws.{over-newest, over-none, over-read}
+use mathlib.Core.Path.{_≡_, refl, _∙_}
+use lib.ListN.{length}
 use Rattle.context.proofs.levels.over_pointee.Statement.{statement}
 use Rattle.context.proofs.levels.over_pointee.Tie as tie
+use Rattle.context.proofs.levels.over_pointee.Reads as reads
+use Rattle.context.proofs.levels.over_pointee.Lts as lts
+use Rattle.context.proofs.levels.pack.Reads as pack-reads
+use Rattle.context.proofs.levels.unpack.Reads as unpack-reads
 
-mul-l : tie.Need-mul-l
-mul-l c = search needs
+array-read-unpack : tie.Need-array-read-unpack
+array-read-unpack c = search needs
 
-array-copy-out-l : tie.Need-array-copy-out-l
-array-copy-out-l c = search needs
+unpack-requires : tie.Need-unpack-requires
+unpack-requires c κs = search needs
 
-mul-a : tie.Need-mul-a
-mul-a c = search needs
+pack-requires : tie.Need-pack-requires
+pack-requires c κs = search needs
 
-array-set-from-a : tie.Need-array-set-from-a
-array-set-from-a c = search needs
+array-write-a : tie.Need-array-write-a
+array-write-a c = search needs
 
 returns : tie.Need-returns
 unfolding levelsOf
-returns c = let n : length (c .before .before .before .args .o .items) ≡ 96 = search (long-mapped, needs) in (refl, over-newest (c .before .before .before .args .o .items) (c .before .before .before .args .o .left) _ (c .before .before .before .args .constant) (omega arith))
+returns c = let n : length (c .before .before .before .before .args .o .items) ≡ 96 = search needs in (refl, over-newest (c .before .before .before .before .args .o .items) (c .before .before .before .before .args .o .left) (c .pack .result) (c .before .before .before .before .args .constant) (omega arith) (c .pack .ensures ∙ over-read _ _ _ (c .before .unpack .ensures)))
 
 returns-2 : tie.Need-returns-2
 unfolding levelsOf
-returns-2 c = let n : length (c .before .before .args .o .items) ≡ 96 = search (long-mapped, needs) in (refl, over-none (c .before .before .args .o .items) (c .before .before .args .o .left) (c .before .before .args .constant) (omega arith))
+returns-2 c = let n : length (c .before .before .args .o .items) ≡ 96 = search needs in (refl, over-none (c .before .before .args .o .items) (c .before .before .args .o .left) (c .before .before .args .constant) (omega arith))
 
 pub over-pointee-spec : {M : Type 1} → statement M
 over-pointee-spec =
-    tie.close (tie.spec mul-l array-copy-out-l mul-a array-set-from-a returns returns-2)
+    tie.close
+    (tie.spec array-read-unpack unpack-requires pack-requires array-write-a returns returns-2)

@@ -1,26 +1,29 @@
 -- What is set below a stack is its newest.
 -- Assumes nothing.
+use borrow.Author.Needs.{needs}
+use native.Mathlib.Omega.{arith}
+use Rattle.context.specs.Context.{levelsOf}
+use Rattle.context.proofs.Laws.{levels-push}
 use mathlib.Core.Path.{_≡_, refl}
 use lib.ListN.{length}
-use Rattle.context.specs.Context.{levelsOf}
-use Rattle.context.proofs.Laws.{long-mapped, levels-push}
-use native.Mathlib.Omega.{arith}
-use borrow.Author.Needs.{needs}
 use Rattle.context.proofs.levels.push_level.Statement.{statement}
 use Rattle.context.proofs.levels.push_level.Tie as tie
+use Rattle.context.proofs.levels.push_level.Reads as reads
+use Rattle.context.proofs.levels.push_level.Lts as lts
+use Rattle.context.proofs.levels.pack.Reads as pack-reads
 
 sub-at : tie.Need-sub-at
 sub-at c = search needs
 
-mul-a : tie.Need-mul-a
-mul-a c = search needs
+pack-requires : tie.Need-pack-requires
+pack-requires c κs = search needs
 
-array-set-from-a : tie.Need-array-set-from-a
-array-set-from-a c = search needs
+array-write-a : tie.Need-array-write-a
+array-write-a c = search needs
 
 returns : tie.Need-returns
 unfolding levelsOf
-returns c = let n : length (c .before .before .args .o .items) ≡ 96 = search (long-mapped, needs) in (refl, levels-push (c .before .before .args .o .items) (c .before .before .args .o .left) (c .before .before .args .l) (omega arith) (omega arith))
+returns c = let n : length (c .before .before .before .args .o .items) ≡ 96 = search needs in (refl, levels-push (c .before .before .before .args .o .items) (c .before .before .before .args .o .left) (c .before .pack .result) _ (omega (arith, c .before .before .before .pre)) (omega (arith, c .before .before .before .pre)) (c .before .pack .ensures))
 
 pub push-level-spec : {M : Type 1} → statement M
-push-level-spec = tie.close (tie.spec sub-at mul-a array-set-from-a returns)
+push-level-spec = tie.close (tie.spec sub-at pack-requires array-write-a returns)
