@@ -6,7 +6,7 @@
 
 Time: a call on a stream of n records is asked for many times, and the time of a run with no call is taken off. Every call walks the record heads once
 for the check; a look-up walks them up to its record. Stack: the least limit under which the deepest streams that the rules allow are read, less the
-least limit for a pointer to int. Each is a row of 94 to 96 open indexes.
+least limit for a run with no call. Each is a row of 94 to 96 open indexes.
 """
 import os, resource, struct, subprocess, sys, tempfile, time
 
@@ -84,13 +84,13 @@ def run(program, folder, name, stack=None):
     return subprocess.run([program, name], cwd=folder, stdout=subprocess.PIPE, stderr=subprocess.DEVNULL, preexec_fn=limit)
 
 
-def least_stack(program, folder, name):
-    """The least stack in KiB under which the program gives the text."""
+def least_stack(program, folder, name, said):
+    """The least stack in KiB under which the program says this."""
     low, high = 32, 8192
     while high - low > 4:
         middle = (low + high) // 2
         r = run(program, folder, name, middle)
-        if r.returncode == 0 and b" 0 0x0 " in r.stdout:
+        if r.returncode == 0 and said in r.stdout:
             high = middle
         else:
             low = middle
@@ -129,13 +129,12 @@ def timed(program, folder):
 
 
 def deep(program, folder):
-    print("KiB of stack")
-    put(folder, "shallow", stream([pointer(0x74)]), struct.pack("<BI", 0x10, FIRST))
-    base = least_stack(program, folder, "shallow")
-    print(f"  the program with a pointer to int: {base}")
-    for label, types in DEEP.items():
+    print("KiB of stack for one call")
+    put(folder, "idle", stream([pointer(0x74)]), b"")
+    base = least_stack(program, folder, "idle", b"== idle")
+    for label, types in [("a pointer to int", stream([pointer(0x74)]))] + list(DEEP.items()):
         put(folder, "deep", types, struct.pack("<BI", 0x10, FIRST))
-        print(f"  {label}: {least_stack(program, folder, 'deep') - base} more")
+        print(f"  {label}: {least_stack(program, folder, 'deep', b' 0 0x0 ') - base}")
 
 
 def main():

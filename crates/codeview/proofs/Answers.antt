@@ -1,4 +1,4 @@
--- Laws of the parts of records: what each answer says of all that goes by it. Assumes nothing.
+-- Laws of the fields of records: what each answer says of all that goes by it. Assumes nothing.
 use Prim.Native.Nat.{ℕ, _+_, _*_}
 use mathlib.Core.Path.{_≡_, refl, sym, _∙_, ap}
 use mathlib.Core.List.{List}
@@ -14,12 +14,12 @@ use Rattle.codeview.specs.declared.record.Entries.{Entries}
 use Rattle.codeview.specs.declared.record.PointerMode.{PointerMode}
 use Rattle.codeview.specs.declared.record.PointerMode.the-variants as mode
 use Rattle.codeview.specs.declared.record.UniqueName.{UniqueName}
-use Rattle.codeview.specs.declared.parts.Names.{Names}
-use Rattle.codeview.specs.declared.parts.Names.the-variants.{Both, Unended}
+use Rattle.codeview.specs.declared.fields.Names.{Names}
+use Rattle.codeview.specs.declared.fields.Names.the-variants.{Both, Unended}
 use Rattle.codeview.specs.declared.types.ModeRead.{ModeRead}
 use Rattle.codeview.specs.declared.types.ModeRead.the-variants.{Known, Unknown}
-use Rattle.codeview.specs.declared.parts.EntriesRead.{EntriesRead}
-use Rattle.codeview.specs.declared.parts.EntriesRead.the-variants.{Whole, Cut}
+use Rattle.codeview.specs.declared.fields.EntriesRead.{EntriesRead}
+use Rattle.codeview.specs.declared.fields.EntriesRead.the-variants.{Whole, Cut}
 
 -- A function of what follows is what follows with the function put on each answer.
 map-names : {A B : Type 0} (f : A → B) (base p : ℕ) (b : List ℕ) (at : ℕ) (k : Name → UniqueName → A) (z : A) → f (names base p b at k z) ≡ names base p b at (λ n u. f (k n u)) (f z)

@@ -6,9 +6,9 @@ ghost use Rattle.codeview.specs.IdRecord.{functionIdOf, memberFunctionId
 ghost use Rattle.codeview.specs.Read.{readId};
 ghost use Rattle.streams.specs.declared.refusal.Refusal.the-variants.{Malformed};
 ghost use Rattle.codeview.specs.declared.record.IdRead.the-variants.{Refused};
+use crate::fields::EntriesRead;
 use crate::index::IdIndex;
 use crate::index::TypeIndex;
-use crate::parts::EntriesRead;
 use crate::record::FunctionId;
 use crate::record::IdData;
 use crate::record::IdRead;
@@ -79,7 +79,7 @@ fn string_list(b: &[u8], base: usize, index: u32) -> IdRead
     requires { ⌜ base + length (now b) < 2 ^ 63 ⌝ }
     ensures { λ r. ⌜ r ≡ stringListOf (Refused (Malformed index)) base (now (b .entry)) ⌝ }
 {
-    let EntriesRead::Whole(list) = crate::parts::entries_of(b, base) else {
+    let EntriesRead::Whole(list) = crate::fields::entries_of(b, base) else {
         return malformed(index);
     };
     IdRead::Good(IdData::StringList(list))

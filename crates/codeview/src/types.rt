@@ -8,9 +8,9 @@ ghost use Rattle.wire.specs.declared.field.Field32.the-variants as f32;
 ghost use Rattle.streams.specs.declared.refusal.Refusal.the-variants.{Malformed};
 ghost use Rattle.codeview.specs.declared.record.TypeRead.the-variants.{Refused};
 ghost use Rattle.codeview.specs.declared.types.ModeRead.the-variants.{Known, Unknown};
+use crate::fields::EntriesRead;
+use crate::fields::Names;
 use crate::index::TypeIndex;
-use crate::parts::EntriesRead;
-use crate::parts::Names;
 use crate::record::ArrayType;
 use crate::record::ClassKind;
 use crate::record::ClassType;
@@ -92,9 +92,9 @@ fn modifier(b: &[u8], base: usize, index: u32) -> TypeRead
         return malformed(index);
     };
     let bits = attributes as u32;
-    let constant = crate::parts::has_bit(bits, 1);
-    let volatile = crate::parts::has_bit(bits, 2);
-    let unaligned = crate::parts::has_bit(bits, 4);
+    let constant = crate::fields::has_bit(bits, 1);
+    let volatile = crate::fields::has_bit(bits, 2);
+    let unaligned = crate::fields::has_bit(bits, 4);
     TypeRead::Good(TypeData::Modifier(ModifierType {
         underlying: TypeIndex(underlying),
         constant,
@@ -118,8 +118,8 @@ fn pointer(b: &[u8], base: usize, index: u32) -> TypeRead
     let Field32::Value(class) = member_class(b, mode) else {
         return malformed(index);
     };
-    let constant = crate::parts::has_bit(attributes, 0x400);
-    let volatile = crate::parts::has_bit(attributes, 0x200);
+    let constant = crate::fields::has_bit(attributes, 0x400);
+    let volatile = crate::fields::has_bit(attributes, 0x200);
     TypeRead::Good(TypeData::Pointer(PointerType {
         underlying: TypeIndex(underlying),
         mode,
@@ -145,7 +145,7 @@ fn procedure(b: &[u8], base: usize, index: u32) -> TypeRead
     let Field32::Value(arguments) = wire::field::u32_at(b, 8) else {
         return malformed(index);
     };
-    let constructor = crate::parts::has_bit(attributes as u32, 0x200);
+    let constructor = crate::fields::has_bit(attributes as u32, 0x200);
     TypeRead::Good(TypeData::Procedure(ProcedureType {
         result: TypeIndex(result),
         constructor,
@@ -178,7 +178,7 @@ fn member_function(b: &[u8], base: usize, index: u32) -> TypeRead
     let Field32::Value(adjustment) = wire::field::u32_at(b, 20) else {
         return malformed(index);
     };
-    let constructor = crate::parts::has_bit(attributes as u32, 0x200);
+    let constructor = crate::fields::has_bit(attributes as u32, 0x200);
     TypeRead::Good(TypeData::MemberFunction(MemberFunctionType {
         result: TypeIndex(result),
         class: TypeIndex(class),
@@ -194,7 +194,7 @@ fn argument_list(b: &[u8], base: usize, index: u32) -> TypeRead
     requires { ⌜ base + length (now b) < 2 ^ 63 ⌝ }
     ensures { λ r. ⌜ r ≡ argumentListOf (Refused (Malformed index)) base (now (b .entry)) ⌝ }
 {
-    let EntriesRead::Whole(list) = crate::parts::entries_of(b, base) else {
+    let EntriesRead::Whole(list) = crate::fields::entries_of(b, base) else {
         return malformed(index);
     };
     TypeRead::Good(TypeData::ArgumentList(list))
@@ -271,7 +271,7 @@ fn class(b: &[u8], base: usize, index: u32, kind: ClassKind) -> TypeRead
     let Field16::Value(properties) = wire::field::u16_at(b, 2) else {
         return malformed(index);
     };
-    let forward = crate::parts::has_bit(properties as u32, 0x80);
+    let forward = crate::fields::has_bit(properties as u32, 0x80);
     let Field32::Value(fields) = wire::field::u32_at(b, 4) else {
         return malformed(index);
     };
@@ -289,7 +289,7 @@ fn class(b: &[u8], base: usize, index: u32, kind: ClassKind) -> TypeRead
     else {
         return malformed(index);
     };
-    let Names::Both(name, unique) = crate::parts::names_at(b, base, next, properties) else {
+    let Names::Both(name, unique) = crate::fields::names_at(b, base, next, properties) else {
         return malformed(index);
     };
     TypeRead::Good(TypeData::Class(ClassType {
@@ -315,7 +315,7 @@ fn union_type(b: &[u8], base: usize, index: u32) -> TypeRead
     let Field16::Value(properties) = wire::field::u16_at(b, 2) else {
         return malformed(index);
     };
-    let forward = crate::parts::has_bit(properties as u32, 0x80);
+    let forward = crate::fields::has_bit(properties as u32, 0x80);
     let Field32::Value(fields) = wire::field::u32_at(b, 4) else {
         return malformed(index);
     };
@@ -327,7 +327,7 @@ fn union_type(b: &[u8], base: usize, index: u32) -> TypeRead
     else {
         return malformed(index);
     };
-    let Names::Both(name, unique) = crate::parts::names_at(b, base, next, properties) else {
+    let Names::Both(name, unique) = crate::fields::names_at(b, base, next, properties) else {
         return malformed(index);
     };
     TypeRead::Good(TypeData::Union(UnionType {
@@ -350,14 +350,14 @@ fn enumeration(b: &[u8], base: usize, index: u32) -> TypeRead
     let Field16::Value(properties) = wire::field::u16_at(b, 2) else {
         return malformed(index);
     };
-    let forward = crate::parts::has_bit(properties as u32, 0x80);
+    let forward = crate::fields::has_bit(properties as u32, 0x80);
     let Field32::Value(underlying) = wire::field::u32_at(b, 4) else {
         return malformed(index);
     };
     let Field32::Value(fields) = wire::field::u32_at(b, 8) else {
         return malformed(index);
     };
-    let Names::Both(name, unique) = crate::parts::names_at(b, base, 12, properties) else {
+    let Names::Both(name, unique) = crate::fields::names_at(b, base, 12, properties) else {
         return malformed(index);
     };
     TypeRead::Good(TypeData::Enumeration(EnumerationType {

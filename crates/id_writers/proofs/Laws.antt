@@ -120,8 +120,8 @@ use Rattle.context.specs.declared.flags.Call.{Call}
 use Rattle.context.specs.Context.{settingsOf, tableIn, keysOf, hasIndex, holding, entryNo, Entering}
 use Rattle.writers.specs.Writers.{markTrace}
 use Rattle.pieces.specs.Pieces.{staticText}
-use Rattle.type_writers.specs.Walking.{methodOf}
-use Rattle.type_writers.proofs.Laws.{
+use Rattle.emit.specs.Walking.{methodOf}
+use Rattle.emit.proofs.Laws.{
   walk-in,
   walk-on,
   read-good,

@@ -25,7 +25,7 @@ use Rattle.rules.specs.Record.{
 }
 use Rattle.rules.specs.Rules.{Rule, inside, unread, idText}
 use Rattle.context.specs.declared.flags.Call.{Call}
-use Rattle.type_writers.specs.Walking.{methodOf}
+use Rattle.emit.specs.Walking.{methodOf}
 use Rattle.id_writers.specs.declared.ProcedureRead.{ProcedureRead}
 use Rattle.id_writers.specs.declared.ProcedureRead.the-variants as procedureRead
 use Rattle.id_writers.specs.declared.MethodRead.{MethodRead}

@@ -14,6 +14,7 @@ use codeview::index::TypeIndex;
 use context::flags::Call;
 use context::flags::FlagsRead;
 use context::flags::TypeFormatterFlags;
+use emit::emit_type_index;
 use id_writers::emit_function;
 use id_writers::emit_id;
 use sizes::SizeRead;
@@ -22,7 +23,6 @@ use streams::refusal::StreamKind;
 use streams::stream::Stream;
 use streams::stream::StreamCheck;
 use streams::stream::check_stream;
-use type_writers::emit_type_index;
 
 // What the checks of a call come to.
 pub enum Checked {

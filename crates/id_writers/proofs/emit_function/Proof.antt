@@ -6,7 +6,7 @@ use Prim.Native.Nat.{_≤_}
 use lib.ListN.{length}
 use mathlib.Core.Path.{sym, _∙_}
 use Rattle.pen.proofs.Laws.{_▸_, wrote-by, wrote-step, wrote-length}
-use Rattle.type_writers.proofs.Laws.{pushed-length}
+use Rattle.emit.proofs.Laws.{pushed-length}
 use Rattle.id_writers.proofs.Laws.{function-zero, function-bad, function-method, function-procedure, function-other}
 use Rattle.id_writers.proofs.emit_function.Statement.{statement}
 use Rattle.id_writers.proofs.emit_function.Tie as tie

@@ -2,7 +2,7 @@
 -- Assumes nothing.
 use borrow.Author.Needs.{needs}
 use Rattle.pen.proofs.Laws.{_▸_, wrote-by, wrote-length}
-use Rattle.type_writers.specs.Walking.{methodOf}
+use Rattle.emit.specs.Walking.{methodOf}
 use Rattle.id_writers.proofs.Laws.{member-named}
 use Rattle.id_writers.proofs.emit_member.Statement.{statement}
 use Rattle.id_writers.proofs.emit_member.Tie as tie
@@ -11,9 +11,9 @@ use Rattle.id_writers.proofs.emit_member.Lts as lts
 use Rattle.pen.proofs.text.Reads as text-reads
 use Rattle.pieces.proofs.hides_return.Reads as hides-return-reads
 use Rattle.pieces.proofs.maybe_emit_static.Reads as maybe-emit-static-reads
-use Rattle.type_writers.proofs.emit_method_args.Reads as emit-method-args-reads
-use Rattle.type_writers.proofs.emit_return_type.Reads as emit-return-type-reads
-use Rattle.type_writers.proofs.emit_type_index.Reads as emit-type-index-reads
+use Rattle.emit.proofs.emit_method_args.Reads as emit-method-args-reads
+use Rattle.emit.proofs.emit_return_type.Reads as emit-return-type-reads
+use Rattle.emit.proofs.emit_type_index.Reads as emit-type-index-reads
 use Rattle.writers.proofs.names.emit_name_str.Reads as emit-name-str-reads
 
 hides-return-requires : tie.Need-hides-return-requires

@@ -4,7 +4,7 @@ use borrow.Author.Needs.{needs}
 use native.Mathlib.Omega.{arith}
 use mathlib.Core.Path.{sym, _∙_}
 use Rattle.pen.proofs.Laws.{_▸_, wrote-by, wrote-length}
-use Rattle.type_writers.proofs.Laws.{pushed-length}
+use Rattle.emit.proofs.Laws.{pushed-length}
 use Rattle.id_writers.proofs.Laws.{member-good, member-bad}
 use Rattle.id_writers.proofs.emit_member_id.Statement.{statement}
 use Rattle.id_writers.proofs.emit_member_id.Tie as tie

@@ -2,7 +2,7 @@
 -- Assumes nothing.
 use borrow.Author.Needs.{needs}
 use Rattle.pen.proofs.Laws.{_▸_, wrote-by, wrote-none, wrote-length}
-use Rattle.type_writers.specs.Walking.{methodOf}
+use Rattle.emit.specs.Walking.{methodOf}
 use Rattle.id_writers.proofs.Laws.{method-named}
 use Rattle.id_writers.proofs.emit_method.Statement.{statement}
 use Rattle.id_writers.proofs.emit_method.Tie as tie
@@ -10,8 +10,8 @@ use Rattle.id_writers.proofs.emit_method.Reads as reads
 use Rattle.id_writers.proofs.emit_method.Lts as lts
 use Rattle.pieces.proofs.hides_return.Reads as hides-return-reads
 use Rattle.pieces.proofs.maybe_emit_static.Reads as maybe-emit-static-reads
-use Rattle.type_writers.proofs.emit_method_args.Reads as emit-method-args-reads
-use Rattle.type_writers.proofs.emit_return_type.Reads as emit-return-type-reads
+use Rattle.emit.proofs.emit_method_args.Reads as emit-method-args-reads
+use Rattle.emit.proofs.emit_return_type.Reads as emit-return-type-reads
 use Rattle.writers.proofs.names.emit_name_str.Reads as emit-name-str-reads
 
 hides-return-requires : tie.Need-hides-return-requires

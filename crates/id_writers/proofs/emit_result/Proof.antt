@@ -9,7 +9,7 @@ use Rattle.id_writers.proofs.emit_result.Reads as reads
 use Rattle.id_writers.proofs.emit_result.Lts as lts
 use Rattle.pieces.proofs.hides_return.Reads as hides-return-reads
 use Rattle.pieces.proofs.is_void.Reads as is-void-reads
-use Rattle.type_writers.proofs.emit_return_type.Reads as emit-return-type-reads
+use Rattle.emit.proofs.emit_return_type.Reads as emit-return-type-reads
 
 is-void-requires : tie.Need-is-void-requires
 is-void-requires c κs = search needs

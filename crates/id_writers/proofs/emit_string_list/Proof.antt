@@ -15,7 +15,7 @@ use Rattle.id_writers.proofs.emit_string_list.Lts as lts
 use Rattle.parts.proofs.settings.text_if.Reads as text-if-reads
 use Rattle.pen.proofs.is_idle.Reads as is-idle-reads
 use Rattle.pieces.proofs.entry_at.Reads as entry-at-reads
-use Rattle.type_writers.proofs.emit_type_index.Reads as emit-type-index-reads
+use Rattle.emit.proofs.emit_type_index.Reads as emit-type-index-reads
 
 abbrev Inv-loop : tie.InvT-loop
 Inv-loop types ids out₀ call e none q₀ between₀ i₀ t13 out q between i = (i ≤ e .count) × (length out ≡ length out₀) × Rest types ids call between e i (page out q) (page out₀ q₀)

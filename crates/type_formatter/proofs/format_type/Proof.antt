@@ -12,7 +12,7 @@ use Rattle.answers.proofs.close.Reads as close-reads
 use Rattle.answers.proofs.start.Reads as start-reads
 use Rattle.type_formatter.proofs.check_call.Reads as check-call-reads
 use Rattle.type_formatter.proofs.refuse_call.Reads as refuse-call-reads
-use Rattle.type_writers.proofs.emit_type_index.Reads as emit-type-index-reads
+use Rattle.emit.proofs.emit_type_index.Reads as emit-type-index-reads
 
 check-call-requires : tie.Need-check-call-requires
 check-call-requires c κs = search needs

@@ -6,7 +6,7 @@ use Prim.Native.Nat.{_≤_}
 use lib.ListN.{length}
 use mathlib.Core.Path.{sym, _∙_}
 use Rattle.pen.proofs.Laws.{_▸_, wrote-by, wrote-step, wrote-length, wrote-idle}
-use Rattle.type_writers.proofs.Laws.{wrote-later, pushed-length}
+use Rattle.emit.proofs.Laws.{wrote-later, pushed-length}
 use Rattle.id_writers.proofs.Laws.{id-bad, id-long, id-other, id-function, function-id-alone, function-id-scoped, function-id-bad, chained}
 use Rattle.id_writers.proofs.emit_id.Reads as emit-id
 use Rattle.codeview.proofs.ids.id_at.Reads as id-at-reads

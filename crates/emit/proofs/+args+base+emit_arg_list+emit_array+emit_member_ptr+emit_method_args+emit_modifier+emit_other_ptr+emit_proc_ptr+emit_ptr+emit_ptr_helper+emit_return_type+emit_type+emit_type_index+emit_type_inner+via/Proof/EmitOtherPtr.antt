@@ -4,12 +4,12 @@ use borrow.Author.Needs.{needs}
 use native.Mathlib.Omega.{arith}
 use Rattle.pen.proofs.Laws.{wrote-by, wrote-ending, wrote-length}
 use mathlib.Core.Path.{refl}
-use Rattle.type_writers.proofs.Laws.{other-ptr-is, arrayed-low}
-use Rattle.type_writers.proofs.emit_other_ptr.Reads as emit-other-ptr
-use Rattle.type_writers.proofs.emit_type.Reads as emit-type
+use Rattle.emit.proofs.Laws.{other-ptr-is, arrayed-low}
+use Rattle.emit.proofs.emit_other_ptr.Reads as emit-other-ptr
+use Rattle.emit.proofs.emit_type.Reads as emit-type
 use Rattle.pieces.proofs.emit_attributes_since.Reads as emit-attributes-since-reads
-use Rattle.type_writers.proofs.+emit_arg_list+emit_args+emit_array+emit_member+emit_member_ptr+emit_method_args+emit_mod_ptr+emit_modifier+emit_other_ptr+emit_proc_ptr+emit_procedure+emit_ptr+emit_ptr_helper+emit_return_type+emit_type+emit_type_index+emit_type_inner.Lts-emit_other_ptr as lts
-use Rattle.type_writers.proofs.+emit_arg_list+emit_args+emit_array+emit_member+emit_member_ptr+emit_method_args+emit_mod_ptr+emit_modifier+emit_other_ptr+emit_proc_ptr+emit_procedure+emit_ptr+emit_ptr_helper+emit_return_type+emit_type+emit_type_index+emit_type_inner.Proof.Common.{emit-other-ptr-at, emit-type-below}
+use Rattle.emit.proofs.+args+base+emit_arg_list+emit_array+emit_member_ptr+emit_method_args+emit_modifier+emit_other_ptr+emit_proc_ptr+emit_ptr+emit_ptr_helper+emit_return_type+emit_type+emit_type_index+emit_type_inner+via.Lts-emit_other_ptr as lts
+use Rattle.emit.proofs.+args+base+emit_arg_list+emit_array+emit_member_ptr+emit_method_args+emit_modifier+emit_other_ptr+emit_proc_ptr+emit_ptr+emit_ptr_helper+emit_return_type+emit_type+emit_type_index+emit_type_inner+via.Proof.Common.{emit-other-ptr-at, emit-type-below}
 
 abbrev claims : ℕ → lts.Claims
 claims t = (emit-type-below t, emit-type.Post, emit-attributes-since-reads.Asked, emit-attributes-since-reads.Learnt)

@@ -10,7 +10,7 @@ ghost use Rattle.rules.specs.Record.{method, procedure, arguments, typeContents
 ghost use Rattle.rules.specs.Rules.{byItself, target, targetOfModifier, modified, element, texted, typeText, pointed, result, methodArguments, methodList, entries};
 ghost use Rattle.pen.specs.Page.{page, Wrote};
 ghost use Rattle.context.specs.Context.{settingsOf, tableIn, levelsOf};
-ghost use Rattle.type_writers.specs.Walking.{walking, ruling, methodOf, behind};
+ghost use Rattle.emit.specs.Walking.{walking, ruling, methodOf, behind};
 use arrays::ArrayEnd;
 use arrays::get_array_info;
 use codeview::index::TypeIndex;
@@ -105,14 +105,14 @@ pub fn emit_method_args(
             let TypeData::ArgumentList(e) = t else {
                 return pen::refuse(out, q, Refusal::ArgumentTypeNotArgumentList(index.0));
             };
-            emit_args(types, ids, out, q, call, &list[..n], m, e, closes)
+            args(types, ids, out, q, call, &list[..n], m, e, closes)
         }
         TypeRead::Refused(f) => pen::unread(out, q, f),
     }
 }
 
 // A method's arguments, its list read: a this pointer that is not one to the class is the first.
-fn emit_args(
+fn args(
     types: &[u8],
     ids: &[u8],
     out: &mut [u8],
@@ -270,7 +270,7 @@ fn emit_ptr(
             TypeData::Modifier(m) => {
                 let under = m.underlying;
                 let over = over_pointee(levels, m.constant);
-                emit_mod_ptr(types, ids, out, q, call, &list[..n], over, under)
+                via(types, ids, out, q, call, &list[..n], over, under)
             }
             _ => emit_ptr_helper(types, ids, out, q, call, &list[..n], levels, t),
         },
@@ -279,7 +279,7 @@ fn emit_ptr(
 }
 
 // The target of a pointer's modifier.
-fn emit_mod_ptr(
+fn via(
     types: &[u8],
     ids: &[u8],
     out: &mut [u8],
@@ -333,20 +333,54 @@ fn emit_array(
     let under = x.element;
     let info = get_array_info(types, call, under, x.size);
     let end = info.end;
-    let base = info.base;
+    let last = info.base;
     let sizes = info.sizes;
     match end {
         ArrayEnd::Base(t) => {
-            match get_type_size(types, call, base, 0) {
+            match get_type_size(types, call, last, 0) {
                 SizeRead::Bytes(size) => {
-                    let q = emit_type(types, ids, out, p, call, seen, t);
+                    let q = base(types, ids, out, p, call, seen, t);
                     emit_brackets(out, q, sizes, size)
                 }
                 SizeRead::TooLong(index) => pen::too_long(out, p, index),
             }
         }
-        ArrayEnd::TooLong => pen::too_long(out, p, base.0),
+        ArrayEnd::TooLong => pen::too_long(out, p, last.0),
         ArrayEnd::Refused(f) => pen::unread(out, p, f),
+    }
+}
+
+// An array's base, with the text that `emit_type` has for it. A pointer and a modifier are gone on with at once, so that a row of pointers to arrays waits in
+// few frames.
+fn base(
+    types: &[u8],
+    ids: &[u8],
+    out: &mut [u8],
+    p: Pen,
+    call: Call,
+    seen: &[u64],
+    t: TypeData,
+) -> Pen
+    requires { ⌜ 1 ≤ length (now seen) ⌝ }
+    ensures { λ r. ⌜ Wrote (page (now (out .entry)) p) (ruling (now (types .entry)) (now (ids .entry)) call (now (seen .entry)) (texted (typeText (settingsOf call) (typeContents (now (types .entry)) t)))) (page (now (out .exit)) r) ⌝ }
+{
+    if pen::is_idle(p) {
+        return p;
+    }
+    match t {
+        TypeData::Pointer(x) => {
+            let mode = x.mode;
+            let under = x.underlying;
+            let first = aim(no_levels(), x.constant, mode);
+            let q = emit_ptr(types, ids, out, p, call, seen, first, under);
+            marked(out, q)
+        }
+        TypeData::Modifier(m) => {
+            let under = m.underlying;
+            let q = emit_modifier(types, ids, out, p, call, seen, m.constant, under);
+            marked(out, q)
+        }
+        _ => emit_type(types, ids, out, p, call, seen, t),
     }
 }
 
@@ -472,7 +506,7 @@ fn emit_type(
     marked(out, q)
 }
 
-// A type by its kind.
+// A type by its kind. A bare procedure's text has no closing parenthesis.
 fn emit_type_inner(
     types: &[u8],
     ids: &[u8],
@@ -497,51 +531,23 @@ fn emit_type_inner(
             let first = aim(no_levels(), x.constant, mode);
             emit_ptr(types, ids, out, p, call, seen, first, under)
         }
-        TypeData::Procedure(x) => emit_procedure(types, ids, out, p, call, seen, x),
-        TypeData::MemberFunction(m) => emit_member(types, ids, out, p, call, seen, m),
+        TypeData::Procedure(x) => {
+            let list = x.arguments;
+            let none = hides_return(call, is_void(x.constructor, x.result));
+            let a = emit_return_type(types, ids, out, p, call, seen, none, x.result);
+            let b = pen::text(out, a, b"()(");
+            emit_type_index(types, ids, out, b, call, seen, list)
+        }
+        TypeData::MemberFunction(m) => {
+            let none = hides_return(call, m.constructor);
+            let a = emit_return_type(types, ids, out, p, call, seen, none, m.result);
+            let b = pen::text(out, a, b"()");
+            emit_method_args(types, ids, out, b, call, seen, m, false)
+        }
         TypeData::ArgumentList(e) => emit_arg_list(types, ids, out, p, call, seen, false, e),
         TypeData::Array(x) => emit_array(types, ids, out, p, call, seen, x),
         _ => emit_record(types, out, p, call, t),
     }
-}
-
-// A bare procedure: its text has no closing parenthesis.
-fn emit_procedure(
-    types: &[u8],
-    ids: &[u8],
-    out: &mut [u8],
-    p: Pen,
-    call: Call,
-    seen: &[u64],
-    x: ProcedureType,
-) -> Pen
-    ensures { λ r. ⌜ Wrote (page (now (out .entry)) p) (ruling (now (types .entry)) (now (ids .entry)) call (now (seen .entry)) (typeText (settingsOf call) (procedure (x .result .0) (x .constructor) (x .arguments .0)))) (page (now (out .exit)) r) ⌝ }
-{
-    let result = x.result;
-    let list = x.arguments;
-    let none = hides_return(call, is_void(x.constructor, result));
-    let a = emit_return_type(types, ids, out, p, call, seen, none, result);
-    let b = pen::text(out, a, b"()(");
-    emit_type_index(types, ids, out, b, call, seen, list)
-}
-
-// A bare method.
-fn emit_member(
-    types: &[u8],
-    ids: &[u8],
-    out: &mut [u8],
-    p: Pen,
-    call: Call,
-    seen: &[u64],
-    m: MemberFunctionType,
-) -> Pen
-    ensures { λ r. ⌜ Wrote (page (now (out .entry)) p) (ruling (now (types .entry)) (now (ids .entry)) call (now (seen .entry)) (typeText (settingsOf call) (method (methodOf m)))) (page (now (out .exit)) r) ⌝ }
-{
-    let result = m.result;
-    let none = hides_return(call, m.constructor);
-    let a = emit_return_type(types, ids, out, p, call, seen, none, result);
-    let b = pen::text(out, a, b"()");
-    emit_method_args(types, ids, out, b, call, seen, m, false)
 }
 
 // One pointer further in.

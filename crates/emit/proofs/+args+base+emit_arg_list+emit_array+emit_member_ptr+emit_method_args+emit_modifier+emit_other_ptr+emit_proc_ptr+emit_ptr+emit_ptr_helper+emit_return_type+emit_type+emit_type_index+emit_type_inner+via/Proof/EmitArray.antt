@@ -3,19 +3,19 @@ use Prim.Native.Nat.{ℕ}
 use borrow.Author.Needs.{needs}
 use native.Mathlib.Omega.{arith}
 use Rattle.pen.proofs.Laws.{_▸_, wrote-by, wrote-length}
-use Rattle.type_writers.proofs.Laws.{wrote-later, array-base, array-long, array-unsized, array-bad, arrayed-not}
-use Rattle.type_writers.proofs.emit_array.Reads as emit-array
-use Rattle.type_writers.proofs.emit_type.Reads as emit-type
+use Rattle.emit.proofs.Laws.{wrote-later, array-base, array-long, array-unsized, array-bad, arrayed-not}
+use Rattle.emit.proofs.emit_array.Reads as emit-array
+use Rattle.emit.proofs.base.Reads as base
 use Rattle.arrays.proofs.get_array_info.Reads as get-array-info-reads
 use Rattle.parts.proofs.brackets.emit_brackets.Reads as emit-brackets-reads
 use Rattle.pen.proofs.too_long.Reads as too-long-reads
 use Rattle.pen.proofs.unread.Reads as unread-reads
 use Rattle.sizes.proofs.get_type_size.Reads as get-type-size-reads
-use Rattle.type_writers.proofs.+emit_arg_list+emit_args+emit_array+emit_member+emit_member_ptr+emit_method_args+emit_mod_ptr+emit_modifier+emit_other_ptr+emit_proc_ptr+emit_procedure+emit_ptr+emit_ptr_helper+emit_return_type+emit_type+emit_type_index+emit_type_inner.Lts-emit_array as lts
-use Rattle.type_writers.proofs.+emit_arg_list+emit_args+emit_array+emit_member+emit_member_ptr+emit_method_args+emit_mod_ptr+emit_modifier+emit_other_ptr+emit_proc_ptr+emit_procedure+emit_ptr+emit_ptr_helper+emit_return_type+emit_type+emit_type_index+emit_type_inner.Proof.Common.{emit-array-at, emit-type-below}
+use Rattle.emit.proofs.+args+base+emit_arg_list+emit_array+emit_member_ptr+emit_method_args+emit_modifier+emit_other_ptr+emit_proc_ptr+emit_ptr+emit_ptr_helper+emit_return_type+emit_type+emit_type_index+emit_type_inner+via.Lts-emit_array as lts
+use Rattle.emit.proofs.+args+base+emit_arg_list+emit_array+emit_member_ptr+emit_method_args+emit_modifier+emit_other_ptr+emit_proc_ptr+emit_ptr+emit_ptr_helper+emit_return_type+emit_type+emit_type_index+emit_type_inner+via.Proof.Common.{emit-array-at, base-below}
 
 abbrev claims : ℕ → lts.Claims
-claims t = (get-array-info-reads.Asked, get-array-info-reads.Learnt, get-type-size-reads.Asked, get-type-size-reads.Learnt, emit-type-below t, emit-type.Post, emit-brackets-reads.Asked, emit-brackets-reads.Learnt, too-long-reads.Asked, too-long-reads.Learnt, unread-reads.Asked, unread-reads.Learnt)
+claims t = (get-array-info-reads.Asked, get-array-info-reads.Learnt, get-type-size-reads.Asked, get-type-size-reads.Learnt, base-below t, base.Post, emit-brackets-reads.Asked, emit-brackets-reads.Learnt, too-long-reads.Asked, too-long-reads.Learnt, unread-reads.Asked, unread-reads.Learnt)
 
 get-array-info-requires : (t : ℕ) → lts.Need-get-array-info-requires (claims t) (emit-array-at t) emit-array.Post
 get-array-info-requires t c κs = search (c .before .before .before .before .before .pre, needs)
@@ -29,8 +29,8 @@ get-type-size-requires t c κs = search (c .before .before .match, c .before .be
 enum-known-size : (t : ℕ) → lts.Need-enum-known-size (claims t) (emit-array-at t) emit-array.Post
 enum-known-size t c = search needs
 
-emit-type-requires : (t : ℕ) → lts.Need-emit-type-requires (claims t) (emit-array-at t) emit-array.Post
-emit-type-requires t c κs = (omega (arith, arrayed-not _ _ (c .before .before .before .before .before .before .end .given .1) (c .before .before .before .before .before .before .before .before .before .before .get-array-info .ensures .flat), c .before .before .before .before .before .before .before .before .before .before .before .before .before .before .before .before .pre), omega (arith, c .before .before .before .before .before .before .before .before .before .before .before .before .before .before .before .before .pre))
+base-requires : (t : ℕ) → lts.Need-base-requires (claims t) (emit-array-at t) emit-array.Post
+base-requires t c κs = (omega (arith, arrayed-not _ _ (c .before .before .before .before .before .before .end .given .1) (c .before .before .before .before .before .before .before .before .before .before .get-array-info .ensures .flat), c .before .before .before .before .before .before .before .before .before .before .before .before .before .before .before .before .pre), omega (arith, c .before .before .before .before .before .before .before .before .before .before .before .before .before .before .before .before .pre))
 
 emit-brackets-requires : (t : ℕ) → lts.Need-emit-brackets-requires (claims t) (emit-array-at t) emit-array.Post
 emit-brackets-requires t c κs = search (c .before .before .before .before .before .before .before .match2, c .before .before .before .before .before .before .before .before .before .before .before .match, c .before .before .before .before .before .before .before .before .before .before .before .before .before .before .before .before .before .before .before .before .pre, c .before .before .before .before .before .before .before .before .get-type-size .ensures, c .before .before .before .before .before .before .before .before .before .before .before .before .before .before .get-array-info .ensures, needs)
@@ -54,7 +54,7 @@ unread-requires : (t : ℕ) → lts.Need-unread-requires (claims t) (emit-array-
 unread-requires t c κs = search (c .before .before .before .match, c .before .before .before .before .before .before .before .before .before .before .before .before .pre, c .before .before .before .before .before .before .get-array-info .ensures, needs)
 
 returns : (t : ℕ) → lts.Need-returns (claims t) (emit-array-at t) emit-array.Post
-returns t c = wrote-by (wrote-later (c .before .before .before .before .before .before .before .before .before .before .before .before .before .before .before .before .before .get-array-info .ensures .taken) (wrote-later (c .before .before .before .before .before .before .before .before .before .before .before .get-type-size .ensures .taken) (c .before .before .before .before .before .before .emit-type .ensures ▸ c .before .before .emit-brackets .ensures))) (array-base _ _ _ _ _ _ _ (c .before .before .before .before .before .before .before .before .before .before .before .before .before .before .before .before .before .get-array-info .ensures) _ _ (c .before .before .before .before .before .before .before .before .before .before .before .before .before .end .given .1) (c .before .before .before .before .before .before .before .before .before .before .before .get-type-size .ensures) _ (c .before .before .before .before .before .before .before .before .before .size .given .1))
+returns t c = wrote-by (wrote-later (c .before .before .before .before .before .before .before .before .before .before .before .before .before .before .before .before .before .get-array-info .ensures .taken) (wrote-later (c .before .before .before .before .before .before .before .before .before .before .before .get-type-size .ensures .taken) (c .before .before .before .before .before .before .base .ensures ▸ c .before .before .emit-brackets .ensures))) (array-base _ _ _ _ _ _ _ (c .before .before .before .before .before .before .before .before .before .before .before .before .before .before .before .before .before .get-array-info .ensures) _ _ (c .before .before .before .before .before .before .before .before .before .before .before .before .before .end .given .1) (c .before .before .before .before .before .before .before .before .before .before .before .get-type-size .ensures) _ (c .before .before .before .before .before .before .before .before .before .size .given .1))
 
 returns-2 : (t : ℕ) → lts.Need-returns-2 (claims t) (emit-array-at t) emit-array.Post
 returns-2 t c = wrote-by (wrote-later (c .before .before .before .before .before .before .before .before .before .before .before .get-array-info .ensures .taken) (wrote-later (c .before .before .before .before .before .get-type-size .ensures .taken) (c .too-long .ensures))) (array-unsized _ _ _ _ _ _ _ (c .before .before .before .before .before .before .before .before .before .before .before .get-array-info .ensures) _ _ (c .before .before .before .before .before .before .before .end .given .1) (c .before .before .before .before .before .get-type-size .ensures) _ (c .before .before .before .index .given .1))
@@ -78,4 +78,4 @@ same-length-4 : (t : ℕ) → lts.Need-same-length-4 (claims t) (emit-array-at t
 same-length-4 t c = wrote-length (returns-4 t c)
 
 pub closed : {M : Type 1} (t : ℕ) → lts.Closed (claims t) (emit-array-at t) emit-array.Post M
-closed t = lts.spec (claims t) (emit-array-at t) emit-array.Post (get-array-info-requires t) (enum-known-end t) (get-type-size-requires t) (enum-known-size t) (emit-type-requires t) (emit-brackets-requires t) (enum-known-index t) (too-long-requires t) (enum-told t) (too-long-requires-2 t) (enum-known-end-2 t) (unread-requires t) (same-length t) (returns t) (same-length-2 t) (returns-2 t) (same-length-3 t) (returns-3 t) (same-length-4 t) (returns-4 t)
+closed t = lts.spec (claims t) (emit-array-at t) emit-array.Post (get-array-info-requires t) (enum-known-end t) (get-type-size-requires t) (enum-known-size t) (base-requires t) (emit-brackets-requires t) (enum-known-index t) (too-long-requires t) (enum-told t) (too-long-requires-2 t) (enum-known-end-2 t) (unread-requires t) (same-length t) (returns t) (same-length-2 t) (returns-2 t) (same-length-3 t) (returns-3 t) (same-length-4 t) (returns-4 t)

@@ -5,8 +5,8 @@ use Rattle.wire.proofs.Laws.{readName, unreadName, withinName}
 use Rattle.codeview.specs.Record.{names, bit}
 use native.Mathlib.Omega.{arith}
 use borrow.Author.Needs.{needs}
-use Rattle.codeview.proofs.parts.names_at.Statement.{statement}
-use Rattle.codeview.proofs.parts.names_at.Tie as tie
+use Rattle.codeview.proofs.fields.names_at.Statement.{statement}
+use Rattle.codeview.proofs.fields.names_at.Tie as tie
 
 name-at-requires : tie.Need-name-at-requires
 name-at-requires c κs = search needs

@@ -2,40 +2,38 @@
 use Prim.Native.Nat.{ℕ, _<_}
 use borrow.Fn.Kinds.{In}
 use borrow.Fn.PlainCycle.{Measures, is, falls, and}
-use Rattle.type_writers.proofs.emit_arg_list.Reads as emit-arg-list
-use Rattle.type_writers.proofs.emit_arg_list.Kinds as emit-arg-list-kinds
-use Rattle.type_writers.proofs.emit_args.Reads as emit-args
-use Rattle.type_writers.proofs.emit_args.Kinds as emit-args-kinds
-use Rattle.type_writers.proofs.emit_array.Reads as emit-array
-use Rattle.type_writers.proofs.emit_array.Kinds as emit-array-kinds
-use Rattle.type_writers.proofs.emit_member.Reads as emit-member
-use Rattle.type_writers.proofs.emit_member.Kinds as emit-member-kinds
-use Rattle.type_writers.proofs.emit_member_ptr.Reads as emit-member-ptr
-use Rattle.type_writers.proofs.emit_member_ptr.Kinds as emit-member-ptr-kinds
-use Rattle.type_writers.proofs.emit_method_args.Reads as emit-method-args
-use Rattle.type_writers.proofs.emit_method_args.Kinds as emit-method-args-kinds
-use Rattle.type_writers.proofs.emit_mod_ptr.Reads as emit-mod-ptr
-use Rattle.type_writers.proofs.emit_mod_ptr.Kinds as emit-mod-ptr-kinds
-use Rattle.type_writers.proofs.emit_modifier.Reads as emit-modifier
-use Rattle.type_writers.proofs.emit_modifier.Kinds as emit-modifier-kinds
-use Rattle.type_writers.proofs.emit_other_ptr.Reads as emit-other-ptr
-use Rattle.type_writers.proofs.emit_other_ptr.Kinds as emit-other-ptr-kinds
-use Rattle.type_writers.proofs.emit_proc_ptr.Reads as emit-proc-ptr
-use Rattle.type_writers.proofs.emit_proc_ptr.Kinds as emit-proc-ptr-kinds
-use Rattle.type_writers.proofs.emit_procedure.Reads as emit-procedure
-use Rattle.type_writers.proofs.emit_procedure.Kinds as emit-procedure-kinds
-use Rattle.type_writers.proofs.emit_ptr.Reads as emit-ptr
-use Rattle.type_writers.proofs.emit_ptr.Kinds as emit-ptr-kinds
-use Rattle.type_writers.proofs.emit_ptr_helper.Reads as emit-ptr-helper
-use Rattle.type_writers.proofs.emit_ptr_helper.Kinds as emit-ptr-helper-kinds
-use Rattle.type_writers.proofs.emit_return_type.Reads as emit-return-type
-use Rattle.type_writers.proofs.emit_return_type.Kinds as emit-return-type-kinds
-use Rattle.type_writers.proofs.emit_type.Reads as emit-type
-use Rattle.type_writers.proofs.emit_type.Kinds as emit-type-kinds
-use Rattle.type_writers.proofs.emit_type_index.Reads as emit-type-index
-use Rattle.type_writers.proofs.emit_type_index.Kinds as emit-type-index-kinds
-use Rattle.type_writers.proofs.emit_type_inner.Reads as emit-type-inner
-use Rattle.type_writers.proofs.emit_type_inner.Kinds as emit-type-inner-kinds
+use Rattle.emit.proofs.args.Reads as args
+use Rattle.emit.proofs.args.Kinds as args-kinds
+use Rattle.emit.proofs.base.Reads as base
+use Rattle.emit.proofs.base.Kinds as base-kinds
+use Rattle.emit.proofs.emit_arg_list.Reads as emit-arg-list
+use Rattle.emit.proofs.emit_arg_list.Kinds as emit-arg-list-kinds
+use Rattle.emit.proofs.emit_array.Reads as emit-array
+use Rattle.emit.proofs.emit_array.Kinds as emit-array-kinds
+use Rattle.emit.proofs.emit_member_ptr.Reads as emit-member-ptr
+use Rattle.emit.proofs.emit_member_ptr.Kinds as emit-member-ptr-kinds
+use Rattle.emit.proofs.emit_method_args.Reads as emit-method-args
+use Rattle.emit.proofs.emit_method_args.Kinds as emit-method-args-kinds
+use Rattle.emit.proofs.emit_modifier.Reads as emit-modifier
+use Rattle.emit.proofs.emit_modifier.Kinds as emit-modifier-kinds
+use Rattle.emit.proofs.emit_other_ptr.Reads as emit-other-ptr
+use Rattle.emit.proofs.emit_other_ptr.Kinds as emit-other-ptr-kinds
+use Rattle.emit.proofs.emit_proc_ptr.Reads as emit-proc-ptr
+use Rattle.emit.proofs.emit_proc_ptr.Kinds as emit-proc-ptr-kinds
+use Rattle.emit.proofs.emit_ptr.Reads as emit-ptr
+use Rattle.emit.proofs.emit_ptr.Kinds as emit-ptr-kinds
+use Rattle.emit.proofs.emit_ptr_helper.Reads as emit-ptr-helper
+use Rattle.emit.proofs.emit_ptr_helper.Kinds as emit-ptr-helper-kinds
+use Rattle.emit.proofs.emit_return_type.Reads as emit-return-type
+use Rattle.emit.proofs.emit_return_type.Kinds as emit-return-type-kinds
+use Rattle.emit.proofs.emit_type.Reads as emit-type
+use Rattle.emit.proofs.emit_type.Kinds as emit-type-kinds
+use Rattle.emit.proofs.emit_type_index.Reads as emit-type-index
+use Rattle.emit.proofs.emit_type_index.Kinds as emit-type-index-kinds
+use Rattle.emit.proofs.emit_type_inner.Reads as emit-type-inner
+use Rattle.emit.proofs.emit_type_inner.Kinds as emit-type-inner-kinds
+use Rattle.emit.proofs.via.Reads as via
+use Rattle.emit.proofs.via.Kinds as via-kinds
 use Rattle.arrays.proofs.get_array_info.Reads as get-array-info-reads
 use Rattle.codeview.proofs.types.type_at.Reads as type-at-reads
 use Rattle.context.proofs.levels.no_levels.Reads as no-levels-reads
@@ -64,12 +62,30 @@ use Rattle.pieces.proofs.entry_at.Reads as entry-at-reads
 use Rattle.pieces.proofs.hides_return.Reads as hides-return-reads
 use Rattle.pieces.proofs.is_void.Reads as is-void-reads
 use Rattle.sizes.proofs.get_type_size.Reads as get-type-size-reads
-use Rattle.type_writers.proofs.aim.Reads as aim-reads
+use Rattle.emit.proofs.aim.Reads as aim-reads
 use Rattle.writers.proofs.marks.mark.Reads as mark-reads
 use Rattle.writers.proofs.marks.marked.Reads as marked-reads
 use Prim.Native.Nat.{_+_, _-_, _*_}  -- common
 use lib.ListN.{length}  -- common
 use Rattle.arrays.specs.Arrays.{arrayed}  -- common
+
+abbrev pub μ-args : Measures 4 args-kinds.ps ℕ
+μ-args κs a = (96 - length (a .1 .1 .1 .1 .1 .0 .now)) * 64 + 3
+
+abbrev pub args-at : ℕ → In 4 args-kinds.ps
+args-at t = and 4 args-kinds.ps (is 4 args-kinds.ps μ-args t) args.Pre
+
+abbrev pub args-below : ℕ → In 4 args-kinds.ps
+args-below t = and 4 args-kinds.ps (falls 4 args-kinds.ps _<_ μ-args t) args.Pre
+
+abbrev pub μ-base : Measures 4 base-kinds.ps ℕ
+μ-base κs a = (96 - length (a .1 .1 .1 .1 .1 .0 .now)) * 64 + (12 + 10 * arrayed (a .1 .1 .1 .1 .1 .1 .0))
+
+abbrev pub base-at : ℕ → In 4 base-kinds.ps
+base-at t = and 4 base-kinds.ps (is 4 base-kinds.ps μ-base t) base.Pre
+
+abbrev pub base-below : ℕ → In 4 base-kinds.ps
+base-below t = and 4 base-kinds.ps (falls 4 base-kinds.ps _<_ μ-base t) base.Pre
 
 abbrev pub μ-emit-arg-list : Measures 4 emit-arg-list-kinds.ps ℕ
 μ-emit-arg-list κs a = (96 - length (a .1 .1 .1 .1 .1 .0 .now)) * 64 + 2
@@ -80,15 +96,6 @@ emit-arg-list-at t = and 4 emit-arg-list-kinds.ps (is 4 emit-arg-list-kinds.ps �
 abbrev pub emit-arg-list-below : ℕ → In 4 emit-arg-list-kinds.ps
 emit-arg-list-below t = and 4 emit-arg-list-kinds.ps (falls 4 emit-arg-list-kinds.ps _<_ μ-emit-arg-list t) emit-arg-list.Pre
 
-abbrev pub μ-emit-args : Measures 4 emit-args-kinds.ps ℕ
-μ-emit-args κs a = (96 - length (a .1 .1 .1 .1 .1 .0 .now)) * 64 + 3
-
-abbrev pub emit-args-at : ℕ → In 4 emit-args-kinds.ps
-emit-args-at t = and 4 emit-args-kinds.ps (is 4 emit-args-kinds.ps μ-emit-args t) emit-args.Pre
-
-abbrev pub emit-args-below : ℕ → In 4 emit-args-kinds.ps
-emit-args-below t = and 4 emit-args-kinds.ps (falls 4 emit-args-kinds.ps _<_ μ-emit-args t) emit-args.Pre
-
 abbrev pub μ-emit-array : Measures 4 emit-array-kinds.ps ℕ
 μ-emit-array κs a = (96 - length (a .1 .1 .1 .1 .1 .0 .now)) * 64 + 15
 
@@ -97,15 +104,6 @@ emit-array-at t = and 4 emit-array-kinds.ps (is 4 emit-array-kinds.ps μ-emit-ar
 
 abbrev pub emit-array-below : ℕ → In 4 emit-array-kinds.ps
 emit-array-below t = and 4 emit-array-kinds.ps (falls 4 emit-array-kinds.ps _<_ μ-emit-array t) emit-array.Pre
-
-abbrev pub μ-emit-member : Measures 4 emit-member-kinds.ps ℕ
-μ-emit-member κs a = (96 - length (a .1 .1 .1 .1 .1 .0 .now)) * 64 + 5
-
-abbrev pub emit-member-at : ℕ → In 4 emit-member-kinds.ps
-emit-member-at t = and 4 emit-member-kinds.ps (is 4 emit-member-kinds.ps μ-emit-member t) emit-member.Pre
-
-abbrev pub emit-member-below : ℕ → In 4 emit-member-kinds.ps
-emit-member-below t = and 4 emit-member-kinds.ps (falls 4 emit-member-kinds.ps _<_ μ-emit-member t) emit-member.Pre
 
 abbrev pub μ-emit-member-ptr : Measures 4 emit-member-ptr-kinds.ps ℕ
 μ-emit-member-ptr κs a = (96 - length (a .1 .1 .1 .1 .1 .0 .now)) * 64 + 5
@@ -124,15 +122,6 @@ emit-method-args-at t = and 4 emit-method-args-kinds.ps (is 4 emit-method-args-k
 
 abbrev pub emit-method-args-below : ℕ → In 4 emit-method-args-kinds.ps
 emit-method-args-below t = and 4 emit-method-args-kinds.ps (falls 4 emit-method-args-kinds.ps _<_ μ-emit-method-args t) emit-method-args.Pre
-
-abbrev pub μ-emit-mod-ptr : Measures 4 emit-mod-ptr-kinds.ps ℕ
-μ-emit-mod-ptr κs a = (96 - length (a .1 .1 .1 .1 .1 .0 .now)) * 64 + 1
-
-abbrev pub emit-mod-ptr-at : ℕ → In 4 emit-mod-ptr-kinds.ps
-emit-mod-ptr-at t = and 4 emit-mod-ptr-kinds.ps (is 4 emit-mod-ptr-kinds.ps μ-emit-mod-ptr t) emit-mod-ptr.Pre
-
-abbrev pub emit-mod-ptr-below : ℕ → In 4 emit-mod-ptr-kinds.ps
-emit-mod-ptr-below t = and 4 emit-mod-ptr-kinds.ps (falls 4 emit-mod-ptr-kinds.ps _<_ μ-emit-mod-ptr t) emit-mod-ptr.Pre
 
 abbrev pub μ-emit-modifier : Measures 4 emit-modifier-kinds.ps ℕ
 μ-emit-modifier κs a = (96 - length (a .1 .1 .1 .1 .1 .0 .now)) * 64 + 1
@@ -160,15 +149,6 @@ emit-proc-ptr-at t = and 4 emit-proc-ptr-kinds.ps (is 4 emit-proc-ptr-kinds.ps �
 
 abbrev pub emit-proc-ptr-below : ℕ → In 4 emit-proc-ptr-kinds.ps
 emit-proc-ptr-below t = and 4 emit-proc-ptr-kinds.ps (falls 4 emit-proc-ptr-kinds.ps _<_ μ-emit-proc-ptr t) emit-proc-ptr.Pre
-
-abbrev pub μ-emit-procedure : Measures 4 emit-procedure-kinds.ps ℕ
-μ-emit-procedure κs a = (96 - length (a .1 .1 .1 .1 .1 .0 .now)) * 64 + 5
-
-abbrev pub emit-procedure-at : ℕ → In 4 emit-procedure-kinds.ps
-emit-procedure-at t = and 4 emit-procedure-kinds.ps (is 4 emit-procedure-kinds.ps μ-emit-procedure t) emit-procedure.Pre
-
-abbrev pub emit-procedure-below : ℕ → In 4 emit-procedure-kinds.ps
-emit-procedure-below t = and 4 emit-procedure-kinds.ps (falls 4 emit-procedure-kinds.ps _<_ μ-emit-procedure t) emit-procedure.Pre
 
 abbrev pub μ-emit-ptr : Measures 4 emit-ptr-kinds.ps ℕ
 μ-emit-ptr κs a = (96 - length (a .1 .1 .1 .1 .1 .0 .now)) * 64 + 1
@@ -223,3 +203,12 @@ emit-type-inner-at t = and 4 emit-type-inner-kinds.ps (is 4 emit-type-inner-kind
 
 abbrev pub emit-type-inner-below : ℕ → In 4 emit-type-inner-kinds.ps
 emit-type-inner-below t = and 4 emit-type-inner-kinds.ps (falls 4 emit-type-inner-kinds.ps _<_ μ-emit-type-inner t) emit-type-inner.Pre
+
+abbrev pub μ-via : Measures 4 via-kinds.ps ℕ
+μ-via κs a = (96 - length (a .1 .1 .1 .1 .1 .0 .now)) * 64 + 1
+
+abbrev pub via-at : ℕ → In 4 via-kinds.ps
+via-at t = and 4 via-kinds.ps (is 4 via-kinds.ps μ-via t) via.Pre
+
+abbrev pub via-below : ℕ → In 4 via-kinds.ps
+via-below t = and 4 via-kinds.ps (falls 4 via-kinds.ps _<_ μ-via t) via.Pre

@@ -2,13 +2,13 @@
 use Prim.Native.Nat.{ℕ}
 use borrow.Author.Needs.{needs}
 use Rattle.pen.proofs.Laws.{wrote-by, wrote-length}
-use Rattle.type_writers.proofs.Laws.{walks}
-use Rattle.type_writers.proofs.emit_member_ptr.Reads as emit-member-ptr
-use Rattle.type_writers.proofs.emit_other_ptr.Reads as emit-other-ptr
-use Rattle.type_writers.proofs.emit_proc_ptr.Reads as emit-proc-ptr
-use Rattle.type_writers.proofs.emit_ptr_helper.Reads as emit-ptr-helper
-use Rattle.type_writers.proofs.+emit_arg_list+emit_args+emit_array+emit_member+emit_member_ptr+emit_method_args+emit_mod_ptr+emit_modifier+emit_other_ptr+emit_proc_ptr+emit_procedure+emit_ptr+emit_ptr_helper+emit_return_type+emit_type+emit_type_index+emit_type_inner.Lts-emit_ptr_helper as lts
-use Rattle.type_writers.proofs.+emit_arg_list+emit_args+emit_array+emit_member+emit_member_ptr+emit_method_args+emit_mod_ptr+emit_modifier+emit_other_ptr+emit_proc_ptr+emit_procedure+emit_ptr+emit_ptr_helper+emit_return_type+emit_type+emit_type_index+emit_type_inner.Proof.Common.{emit-ptr-helper-at, emit-member-ptr-below, emit-other-ptr-below, emit-proc-ptr-below}
+use Rattle.emit.proofs.Laws.{walks}
+use Rattle.emit.proofs.emit_member_ptr.Reads as emit-member-ptr
+use Rattle.emit.proofs.emit_other_ptr.Reads as emit-other-ptr
+use Rattle.emit.proofs.emit_proc_ptr.Reads as emit-proc-ptr
+use Rattle.emit.proofs.emit_ptr_helper.Reads as emit-ptr-helper
+use Rattle.emit.proofs.+args+base+emit_arg_list+emit_array+emit_member_ptr+emit_method_args+emit_modifier+emit_other_ptr+emit_proc_ptr+emit_ptr+emit_ptr_helper+emit_return_type+emit_type+emit_type_index+emit_type_inner+via.Lts-emit_ptr_helper as lts
+use Rattle.emit.proofs.+args+base+emit_arg_list+emit_array+emit_member_ptr+emit_method_args+emit_modifier+emit_other_ptr+emit_proc_ptr+emit_ptr+emit_ptr_helper+emit_return_type+emit_type+emit_type_index+emit_type_inner+via.Proof.Common.{emit-ptr-helper-at, emit-member-ptr-below, emit-other-ptr-below, emit-proc-ptr-below}
 
 abbrev claims : ℕ → lts.Claims
 claims t = (emit-member-ptr-below t, emit-member-ptr.Post, emit-proc-ptr-below t, emit-proc-ptr.Post, emit-other-ptr-below t, emit-other-ptr.Post)

@@ -2,12 +2,12 @@
 use Prim.Native.Nat.{ℕ}
 use borrow.Author.Needs.{needs}
 use Rattle.pen.proofs.Laws.{_▸_, wrote-by, wrote-length}
-use Rattle.type_writers.proofs.Laws.{walks}
-use Rattle.type_writers.proofs.emit_return_type.Reads as emit-return-type
-use Rattle.type_writers.proofs.emit_type_index.Reads as emit-type-index
+use Rattle.emit.proofs.Laws.{walks}
+use Rattle.emit.proofs.emit_return_type.Reads as emit-return-type
+use Rattle.emit.proofs.emit_type_index.Reads as emit-type-index
 use Rattle.pen.proofs.text.Reads as text-reads
-use Rattle.type_writers.proofs.+emit_arg_list+emit_args+emit_array+emit_member+emit_member_ptr+emit_method_args+emit_mod_ptr+emit_modifier+emit_other_ptr+emit_proc_ptr+emit_procedure+emit_ptr+emit_ptr_helper+emit_return_type+emit_type+emit_type_index+emit_type_inner.Lts-emit_return_type as lts
-use Rattle.type_writers.proofs.+emit_arg_list+emit_args+emit_array+emit_member+emit_member_ptr+emit_method_args+emit_mod_ptr+emit_modifier+emit_other_ptr+emit_proc_ptr+emit_procedure+emit_ptr+emit_ptr_helper+emit_return_type+emit_type+emit_type_index+emit_type_inner.Proof.Common.{emit-return-type-at, emit-type-index-below}
+use Rattle.emit.proofs.+args+base+emit_arg_list+emit_array+emit_member_ptr+emit_method_args+emit_modifier+emit_other_ptr+emit_proc_ptr+emit_ptr+emit_ptr_helper+emit_return_type+emit_type+emit_type_index+emit_type_inner+via.Lts-emit_return_type as lts
+use Rattle.emit.proofs.+args+base+emit_arg_list+emit_array+emit_member_ptr+emit_method_args+emit_modifier+emit_other_ptr+emit_proc_ptr+emit_ptr+emit_ptr_helper+emit_return_type+emit_type+emit_type_index+emit_type_inner+via.Proof.Common.{emit-return-type-at, emit-type-index-below}
 
 abbrev claims : ℕ → lts.Claims
 claims t = (emit-type-index-below t, emit-type-index.Post, text-reads.Asked, text-reads.Learnt)

@@ -4,10 +4,10 @@ use borrow.Author.Needs.{needs}
 use native.Mathlib.Omega.{arith}
 use Rattle.pen.proofs.Laws.{_▸_, wrote-by, wrote-step, wrote-length, wrote-idle}
 use mathlib.Core.Path.{sym, _∙_}
-use Rattle.type_writers.proofs.Laws.{self-in, self-bad}
-use Rattle.type_writers.proofs.Laws.{walks, arrayed-low, entry-room, pushed-length}
-use Rattle.type_writers.proofs.emit_type.Reads as emit-type
-use Rattle.type_writers.proofs.emit_type_index.Reads as emit-type-index
+use Rattle.emit.proofs.Laws.{self-in, self-bad}
+use Rattle.emit.proofs.Laws.{walks, arrayed-low, entry-room, pushed-length}
+use Rattle.emit.proofs.emit_type.Reads as emit-type
+use Rattle.emit.proofs.emit_type_index.Reads as emit-type-index
 use Rattle.codeview.proofs.types.type_at.Reads as type-at-reads
 use Rattle.context.proofs.seen.entry.Reads as entry-reads
 use Rattle.context.proofs.seen.insert.Reads as insert-reads
@@ -15,8 +15,8 @@ use Rattle.pen.proofs.bar.Reads as bar-reads
 use Rattle.pen.proofs.is_idle.Reads as is-idle-reads
 use Rattle.pen.proofs.tick.Reads as tick-reads
 use Rattle.writers.proofs.marks.mark.Reads as mark-reads
-use Rattle.type_writers.proofs.+emit_arg_list+emit_args+emit_array+emit_member+emit_member_ptr+emit_method_args+emit_mod_ptr+emit_modifier+emit_other_ptr+emit_proc_ptr+emit_procedure+emit_ptr+emit_ptr_helper+emit_return_type+emit_type+emit_type_index+emit_type_inner.Lts-emit_type_index as lts
-use Rattle.type_writers.proofs.+emit_arg_list+emit_args+emit_array+emit_member+emit_member_ptr+emit_method_args+emit_mod_ptr+emit_modifier+emit_other_ptr+emit_proc_ptr+emit_procedure+emit_ptr+emit_ptr_helper+emit_return_type+emit_type+emit_type_index+emit_type_inner.Proof.Common.{emit-type-index-at, emit-type-below}
+use Rattle.emit.proofs.+args+base+emit_arg_list+emit_array+emit_member_ptr+emit_method_args+emit_modifier+emit_other_ptr+emit_proc_ptr+emit_ptr+emit_ptr_helper+emit_return_type+emit_type+emit_type_index+emit_type_inner+via.Lts-emit_type_index as lts
+use Rattle.emit.proofs.+args+base+emit_arg_list+emit_array+emit_member_ptr+emit_method_args+emit_modifier+emit_other_ptr+emit_proc_ptr+emit_ptr+emit_ptr_helper+emit_return_type+emit_type+emit_type_index+emit_type_inner+via.Proof.Common.{emit-type-index-at, emit-type-below}
 
 abbrev claims : ℕ → lts.Claims
 claims t = (is-idle-reads.Asked, is-idle-reads.Learnt, type-at-reads.Asked, type-at-reads.Learnt, entry-reads.Asked, entry-reads.Learnt, bar-reads.Asked, bar-reads.Learnt, insert-reads.Asked, insert-reads.Learnt, tick-reads.Asked, tick-reads.Learnt, emit-type-below t, emit-type.Post, mark-reads.Asked, mark-reads.Learnt)

@@ -149,7 +149,7 @@ use Rattle.arrays.specs.declared.ArrayInfo.{ArrayInfo}
 use Rattle.sizes.specs.Sizes.{Sizes, sizeTrace}
 use Rattle.sizes.specs.declared.SizeRead.{SizeRead}
 use Rattle.sizes.specs.declared.SizeRead.the-variants as sized
-use Rattle.type_writers.specs.Walking.{methodOf, behind}
+use Rattle.emit.specs.Walking.{methodOf, behind}
 
 -- Taking up records without opening them changes nothing of a page.
 wrote-taken : {g : Page} (k : ℕ) → Wrote g (tr [] done [] (count 0 k)) g
@@ -344,6 +344,9 @@ module _ (c : Settings) (t : Table) (h : Held) where
   unfolding ruled exec marking
   text-is p = refl
 
+  pub text-by : (u : Trace Refusal) (p : Rule) → u ≡ ruled c t h p → marking u (λ i. say (missingMark i)) ≡ ruled c t h (texted p)
+  text-by u p e = ap (λ (x : Trace Refusal). marking x (λ i. say (missingMark i))) e ∙ text-is p
+
   -- A result.
   pub result-none : (b : Bool) (i : ℕ) → b ≡ true → say [] ≡ ruled c t h (result c b i)
   unfolding ruled exec result
@@ -363,14 +366,14 @@ module _ (c : Settings) (t : Table) (h : Held) where
   returned-is none b i e = rw e (hidden (c .noReturn) b i)
 
   -- A bare procedure and a bare method.
-  pub procedure-is : (r list : ℕ) (b v none : Bool) → v ≡ b || eqb r 0 → none ≡ c .noReturn || v
+  procedure-is : (r list : ℕ) (b v none : Bool) → v ≡ b || eqb r 0 → none ≡ c .noReturn || v
       → ruled c t h (result c none r) ⨾ say (bytes "()(") ⨾ walked c t h (byItself list) ≡ ruled c t h (typeText c (procedure r b list))
   unfolding ruled exec typeText procedureResult _⨾_
   procedure-is r list b v none e f =
       let k : none ≡ c .noReturn || (b || eqb r 0) = rw (← e) f in
       ap (λ (x : Trace Refusal). x ⨾ say (bytes "()(") ⨾ walked c t h (byItself list)) (returned-is none (b || eqb r 0) r k)
 
-  pub method-is : (m : Method) (none : Bool) → none ≡ c .noReturn || m .constructor
+  method-is : (m : Method) (none : Bool) → none ≡ c .noReturn || m .constructor
       → ruled c t h (result c none (m .result)) ⨾ say (bytes "()") ⨾ ruled c t h (methodArguments c m false) ≡ ruled c t h (typeText c (method m))
   unfolding ruled exec typeText _⨾_
   method-is m none e =
@@ -677,15 +680,15 @@ module _ (s d : List ℕ) (call : Call) (o : List ℕ) where
   unfolding ruled exec typeText typeContents
   inner-pointer x p g q e f k = rw (e, k, f)
 
-  pub inner-procedure : (x : TypeData) (p : ProcedureType) → x ≡ type.Procedure p
-      → ruled c t h (typeText c (procedure (p .result .0) (p .constructor) (p .arguments .0))) ≡ ruled c t h (typeText c (typeContents s x))
+  pub inner-procedure : (x : TypeData) (p : ProcedureType) (v none : Bool) → x ≡ type.Procedure p → v ≡ p .constructor || eqb (p .result .0) 0 → none ≡ c .noReturn || v
+      → ruled c t h (result c none (p .result .0)) ⨾ say (bytes "()(") ⨾ walked c t h (byItself (p .arguments .0)) ≡ ruled c t h (typeText c (typeContents s x))
   unfolding typeContents
-  inner-procedure x p e = rw e
+  inner-procedure x p v none e f g = rw e (procedure-is c t h (p .result .0) (p .arguments .0) (p .constructor) v none f g)
 
-  pub inner-method : (x : TypeData) (p : MemberFunctionType) → x ≡ type.MemberFunction p
-      → ruled c t h (typeText c (method (methodOf p))) ≡ ruled c t h (typeText c (typeContents s x))
+  pub inner-method : (x : TypeData) (p : MemberFunctionType) (none : Bool) → x ≡ type.MemberFunction p → none ≡ c .noReturn || p .constructor
+      → ruled c t h (result c none (p .result .0)) ⨾ say (bytes "()") ⨾ ruled c t h (methodArguments c (methodOf p) false) ≡ ruled c t h (typeText c (typeContents s x))
   unfolding typeContents
-  inner-method x p e = rw e
+  inner-method x p none e f = rw e (method-is c t h (methodOf p) none f)
 
   pub inner-list : (x : TypeData) (p : Entries) → x ≡ type.ArgumentList p
       → ruled c t h (entries c false (numbersAt s (p .start) (p .count))) ≡ ruled c t h (typeText c (typeContents s x))
@@ -890,8 +893,6 @@ pub ruleset walks = (
   helper-other,
   result-none,
   result-some,
-  procedure-is,
-  method-is,
   member-ptr-is,
   proc-ptr-is,
 )

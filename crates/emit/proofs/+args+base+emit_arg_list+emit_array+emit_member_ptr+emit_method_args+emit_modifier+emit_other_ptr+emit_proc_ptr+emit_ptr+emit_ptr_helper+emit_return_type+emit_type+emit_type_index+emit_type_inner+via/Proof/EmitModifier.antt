@@ -4,11 +4,11 @@ use borrow.Author.Needs.{needs}
 use native.Mathlib.Omega.{arith}
 use Rattle.pen.proofs.Laws.{_▸_, wrote-by, wrote-length, wrote-idle}
 use mathlib.Core.Path.{sym, _∙_}
-use Rattle.type_writers.proofs.Laws.{modified-pointer, modified-primitive, modified-plain, modified-bad}
-use Rattle.type_writers.proofs.Laws.{walks, arrayed-low, entry-room, pushed-length}
-use Rattle.type_writers.proofs.emit_modifier.Reads as emit-modifier
-use Rattle.type_writers.proofs.emit_ptr.Reads as emit-ptr
-use Rattle.type_writers.proofs.emit_type.Reads as emit-type
+use Rattle.emit.proofs.Laws.{modified-pointer, modified-primitive, modified-plain, modified-bad}
+use Rattle.emit.proofs.Laws.{walks, arrayed-low, entry-room, pushed-length}
+use Rattle.emit.proofs.emit_modifier.Reads as emit-modifier
+use Rattle.emit.proofs.emit_ptr.Reads as emit-ptr
+use Rattle.emit.proofs.emit_type.Reads as emit-type
 use Rattle.codeview.proofs.types.type_at.Reads as type-at-reads
 use Rattle.context.proofs.levels.no_levels.Reads as no-levels-reads
 use Rattle.context.proofs.seen.entry.Reads as entry-reads
@@ -20,9 +20,9 @@ use Rattle.pen.proofs.is_idle.Reads as is-idle-reads
 use Rattle.pen.proofs.tick.Reads as tick-reads
 use Rattle.pen.proofs.unread.Reads as unread-reads
 use Rattle.pieces.proofs.either.Reads as either-reads
-use Rattle.type_writers.proofs.aim.Reads as aim-reads
-use Rattle.type_writers.proofs.+emit_arg_list+emit_args+emit_array+emit_member+emit_member_ptr+emit_method_args+emit_mod_ptr+emit_modifier+emit_other_ptr+emit_proc_ptr+emit_procedure+emit_ptr+emit_ptr_helper+emit_return_type+emit_type+emit_type_index+emit_type_inner.Lts-emit_modifier as lts
-use Rattle.type_writers.proofs.+emit_arg_list+emit_args+emit_array+emit_member+emit_member_ptr+emit_method_args+emit_mod_ptr+emit_modifier+emit_other_ptr+emit_proc_ptr+emit_procedure+emit_ptr+emit_ptr_helper+emit_return_type+emit_type+emit_type_index+emit_type_inner.Proof.Common.{emit-modifier-at, emit-ptr-below, emit-type-below}
+use Rattle.emit.proofs.aim.Reads as aim-reads
+use Rattle.emit.proofs.+args+base+emit_arg_list+emit_array+emit_member_ptr+emit_method_args+emit_modifier+emit_other_ptr+emit_proc_ptr+emit_ptr+emit_ptr_helper+emit_return_type+emit_type+emit_type_index+emit_type_inner+via.Lts-emit_modifier as lts
+use Rattle.emit.proofs.+args+base+emit_arg_list+emit_array+emit_member_ptr+emit_method_args+emit_modifier+emit_other_ptr+emit_proc_ptr+emit_ptr+emit_ptr_helper+emit_return_type+emit_type+emit_type_index+emit_type_inner+via.Proof.Common.{emit-modifier-at, emit-ptr-below, emit-type-below}
 
 abbrev claims : ℕ → lts.Claims
 claims t = (is-idle-reads.Asked, is-idle-reads.Learnt, entry-reads.Asked, entry-reads.Learnt, bar-reads.Asked, bar-reads.Learnt, insert-reads.Asked, insert-reads.Learnt, tick-reads.Asked, tick-reads.Learnt, type-at-reads.Asked, type-at-reads.Learnt, no-levels-reads.Asked, no-levels-reads.Learnt, either-reads.Asked, either-reads.Learnt, aim-reads.Asked, aim-reads.Learnt, emit-ptr-below t, emit-ptr.Post, emit-primitive-reads.Asked, emit-primitive-reads.Learnt, text-if-reads.Asked, text-if-reads.Learnt, emit-type-below t, emit-type.Post, unread-reads.Asked, unread-reads.Learnt)

@@ -4,11 +4,11 @@ use borrow.Author.Needs.{needs}
 use native.Mathlib.Omega.{arith}
 use Rattle.pen.proofs.Laws.{_▸_, wrote-by, wrote-length, wrote-idle}
 use mathlib.Core.Path.{sym, _∙_}
-use Rattle.type_writers.proofs.Laws.{target-pointer, target-modifier, target-other, target-bad}
-use Rattle.type_writers.proofs.Laws.{walks, entry-room, pushed-length}
-use Rattle.type_writers.proofs.emit_mod_ptr.Reads as emit-mod-ptr
-use Rattle.type_writers.proofs.emit_ptr.Reads as emit-ptr
-use Rattle.type_writers.proofs.emit_ptr_helper.Reads as emit-ptr-helper
+use Rattle.emit.proofs.Laws.{target-pointer, target-modifier, target-other, target-bad}
+use Rattle.emit.proofs.Laws.{walks, entry-room, pushed-length}
+use Rattle.emit.proofs.via.Reads as via
+use Rattle.emit.proofs.emit_ptr.Reads as emit-ptr
+use Rattle.emit.proofs.emit_ptr_helper.Reads as emit-ptr-helper
 use Rattle.codeview.proofs.types.type_at.Reads as type-at-reads
 use Rattle.context.proofs.levels.over_pointee.Reads as over-pointee-reads
 use Rattle.context.proofs.seen.entry.Reads as entry-reads
@@ -17,12 +17,12 @@ use Rattle.pen.proofs.bar.Reads as bar-reads
 use Rattle.pen.proofs.is_idle.Reads as is-idle-reads
 use Rattle.pen.proofs.tick.Reads as tick-reads
 use Rattle.pen.proofs.unread.Reads as unread-reads
-use Rattle.type_writers.proofs.aim.Reads as aim-reads
-use Rattle.type_writers.proofs.+emit_arg_list+emit_args+emit_array+emit_member+emit_member_ptr+emit_method_args+emit_mod_ptr+emit_modifier+emit_other_ptr+emit_proc_ptr+emit_procedure+emit_ptr+emit_ptr_helper+emit_return_type+emit_type+emit_type_index+emit_type_inner.Lts-emit_ptr as lts
-use Rattle.type_writers.proofs.+emit_arg_list+emit_args+emit_array+emit_member+emit_member_ptr+emit_method_args+emit_mod_ptr+emit_modifier+emit_other_ptr+emit_proc_ptr+emit_procedure+emit_ptr+emit_ptr_helper+emit_return_type+emit_type+emit_type_index+emit_type_inner.Proof.Common.{emit-ptr-at, emit-mod-ptr-below, emit-ptr-below, emit-ptr-helper-below}
+use Rattle.emit.proofs.aim.Reads as aim-reads
+use Rattle.emit.proofs.+args+base+emit_arg_list+emit_array+emit_member_ptr+emit_method_args+emit_modifier+emit_other_ptr+emit_proc_ptr+emit_ptr+emit_ptr_helper+emit_return_type+emit_type+emit_type_index+emit_type_inner+via.Lts-emit_ptr as lts
+use Rattle.emit.proofs.+args+base+emit_arg_list+emit_array+emit_member_ptr+emit_method_args+emit_modifier+emit_other_ptr+emit_proc_ptr+emit_ptr+emit_ptr_helper+emit_return_type+emit_type+emit_type_index+emit_type_inner+via.Proof.Common.{emit-ptr-at, via-below, emit-ptr-below, emit-ptr-helper-below}
 
 abbrev claims : ℕ → lts.Claims
-claims t = (is-idle-reads.Asked, is-idle-reads.Learnt, entry-reads.Asked, entry-reads.Learnt, bar-reads.Asked, bar-reads.Learnt, insert-reads.Asked, insert-reads.Learnt, tick-reads.Asked, tick-reads.Learnt, type-at-reads.Asked, type-at-reads.Learnt, aim-reads.Asked, aim-reads.Learnt, emit-ptr-below t, emit-ptr.Post, over-pointee-reads.Asked, over-pointee-reads.Learnt, emit-mod-ptr-below t, emit-mod-ptr.Post, emit-ptr-helper-below t, emit-ptr-helper.Post, unread-reads.Asked, unread-reads.Learnt)
+claims t = (is-idle-reads.Asked, is-idle-reads.Learnt, entry-reads.Asked, entry-reads.Learnt, bar-reads.Asked, bar-reads.Learnt, insert-reads.Asked, insert-reads.Learnt, tick-reads.Asked, tick-reads.Learnt, type-at-reads.Asked, type-at-reads.Learnt, aim-reads.Asked, aim-reads.Learnt, emit-ptr-below t, emit-ptr.Post, over-pointee-reads.Asked, over-pointee-reads.Learnt, via-below t, via.Post, emit-ptr-helper-below t, emit-ptr-helper.Post, unread-reads.Asked, unread-reads.Learnt)
 
 is-idle-requires : (t : ℕ) → lts.Need-is-idle-requires (claims t) (emit-ptr-at t) emit-ptr.Post
 is-idle-requires t c κs = search (c .before .before .before .before .pre, needs)
@@ -78,11 +78,11 @@ over-pointee-requires t c κs = search (c .before .before .before .match2, c .be
 array-share-prefix-list-2 : (t : ℕ) → lts.Need-array-share-prefix-list-2 (claims t) (emit-ptr-at t) emit-ptr.Post
 array-share-prefix-list-2 t c = omega (arith, c .before .before .before .before .before .before .before .before .before .before .before .before .before .before .insert .ensures .1, entry-room _ _ _ (c .before .before .before .before .before .before .before .before .before .before .before .before .before .before .before .before .before .entry .ensures) (search (c .before .before .before .before .before .match2, c .before .before .before .before .before .before .before .before .match, c .before .before .before .before .before .before .before .before .before .before .before .before .before .before .before .before .if2, c .before .before .before .before .before .before .before .before .before .before .before .before .before .before .before .before .before .before .if1, c .before .before .before .before .before .before .before .before .before .before .before .before .before .before .before .before .before .before .before .before .before .before .before .before .pre, c .before .over-pointee .ensures, c .before .before .before .before .before .before .before .before .before .type-at .ensures, c .before .before .before .before .before .before .before .before .before .before .before .before .before .before .insert .ensures, c .before .before .before .before .before .before .before .before .before .before .before .before .before .before .before .before .before .entry .ensures, c .before .before .before .before .before .before .before .before .before .before .before .before .before .before .before .before .before .before .before .is-idle .ensures, needs)))
 
-slice-aggregate-emit-mod-ptr : (t : ℕ) → lts.Need-slice-aggregate-emit-mod-ptr (claims t) (emit-ptr-at t) emit-ptr.Post
-slice-aggregate-emit-mod-ptr t c = c .before .before .before .before .before .before .before .before .before .before .before .before .before .before .before .insert .ensures .1 ∙ sym (pushed-length _ _ _ (c .before .before .before .before .before .before .before .before .before .before .before .before .before .before .before .insert .ensures .2))
+slice-aggregate-via : (t : ℕ) → lts.Need-slice-aggregate-via (claims t) (emit-ptr-at t) emit-ptr.Post
+slice-aggregate-via t c = c .before .before .before .before .before .before .before .before .before .before .before .before .before .before .before .insert .ensures .1 ∙ sym (pushed-length _ _ _ (c .before .before .before .before .before .before .before .before .before .before .before .before .before .before .before .insert .ensures .2))
 
-emit-mod-ptr-requires : (t : ℕ) → lts.Need-emit-mod-ptr-requires (claims t) (emit-ptr-at t) emit-ptr.Post
-emit-mod-ptr-requires t c κs = (omega (arith, pushed-length _ _ _ (c .before .before .before .before .before .before .before .before .before .before .before .before .before .before .before .insert .ensures .2), entry-room _ _ _ (c .before .before .before .before .before .before .before .before .before .before .before .before .before .before .before .before .before .before .entry .ensures) (c .before .before .before .before .before .before .before .before .before .before .before .before .before .before .before .before .before .if2 .left), c .before .before .before .before .before .before .before .before .before .before .before .before .before .before .before .before .before .before .before .before .before .before .before .before .before .pre), (omega (arith, pushed-length _ _ _ (c .before .before .before .before .before .before .before .before .before .before .before .before .before .before .before .insert .ensures .2), entry-room _ _ _ (c .before .before .before .before .before .before .before .before .before .before .before .before .before .before .before .before .before .before .entry .ensures) (c .before .before .before .before .before .before .before .before .before .before .before .before .before .before .before .before .before .if2 .left), c .before .before .over-pointee .ensures .0, c .before .before .before .before .before .before .before .before .before .before .before .before .before .before .before .before .before .before .before .before .before .before .before .before .before .pre), omega (arith, c .before .before .over-pointee .ensures .0, c .before .before .before .before .before .before .before .before .before .before .before .before .before .before .before .before .before .before .before .before .before .before .before .before .before .pre)))
+via-requires : (t : ℕ) → lts.Need-via-requires (claims t) (emit-ptr-at t) emit-ptr.Post
+via-requires t c κs = (omega (arith, pushed-length _ _ _ (c .before .before .before .before .before .before .before .before .before .before .before .before .before .before .before .insert .ensures .2), entry-room _ _ _ (c .before .before .before .before .before .before .before .before .before .before .before .before .before .before .before .before .before .before .entry .ensures) (c .before .before .before .before .before .before .before .before .before .before .before .before .before .before .before .before .before .if2 .left), c .before .before .before .before .before .before .before .before .before .before .before .before .before .before .before .before .before .before .before .before .before .before .before .before .before .pre), (omega (arith, pushed-length _ _ _ (c .before .before .before .before .before .before .before .before .before .before .before .before .before .before .before .insert .ensures .2), entry-room _ _ _ (c .before .before .before .before .before .before .before .before .before .before .before .before .before .before .before .before .before .before .entry .ensures) (c .before .before .before .before .before .before .before .before .before .before .before .before .before .before .before .before .before .if2 .left), c .before .before .over-pointee .ensures .0, c .before .before .before .before .before .before .before .before .before .before .before .before .before .before .before .before .before .before .before .before .before .before .before .before .before .pre), omega (arith, c .before .before .over-pointee .ensures .0, c .before .before .before .before .before .before .before .before .before .before .before .before .before .before .before .before .before .before .before .before .before .before .before .before .before .pre)))
 
 array-share-prefix-list-3 : (t : ℕ) → lts.Need-array-share-prefix-list-3 (claims t) (emit-ptr-at t) emit-ptr.Post
 array-share-prefix-list-3 t c = omega (arith, c .before .before .before .before .before .before .before .before .before .before .insert .ensures .1, entry-room _ _ _ (c .before .before .before .before .before .before .before .before .before .before .before .before .before .entry .ensures) (search (c .before .match2, c .before .before .before .before .match, c .before .before .before .before .before .before .before .before .before .before .before .before .if2, c .before .before .before .before .before .before .before .before .before .before .before .before .before .before .if1, c .before .before .before .before .before .before .before .before .before .before .before .before .before .before .before .before .before .before .before .before .pre, c .before .before .before .before .before .type-at .ensures, c .before .before .before .before .before .before .before .before .before .before .insert .ensures, c .before .before .before .before .before .before .before .before .before .before .before .before .before .entry .ensures, c .before .before .before .before .before .before .before .before .before .before .before .before .before .before .before .is-idle .ensures, needs)))
@@ -103,7 +103,7 @@ returns-3 : (t : ℕ) → lts.Need-returns-3 (claims t) (emit-ptr-at t) emit-ptr
 returns-3 t c = wrote-by (c .before .before .before .before .before .before .before .before .before .before .before .before .before .before .before .tick .ensures ▸ c .before .before .emit-ptr .ensures) (target-pointer _ _ _ _ _ _ _ _ _ (c .before .before .before .before .before .before .before .before .before .before .before .before .before .before .before .before .before .before .before .before .before .entry .ensures) (c .before .before .before .before .before .before .before .before .before .before .before .before .before .before .before .before .before .before .before .before .if2 .left) (search (c .before .before .before .before .before .before .before .before .before .before .before .before .before .before .before .before .before .before .before .before .before .before .before .before .before .before .before .before .good .1 .1 .1 .1 .1 .1 .1 .0, needs)) (c .before .before .before .before .before .before .before .before .before .before .before .before .before .before .before .before .before .before .insert .ensures .2) (c .before .before .before .before .before .before .before .before .before .before .before .before .before .type-at .ensures) _ _ _ (c .before .before .before .before .before .before .before .before .before .before .before .t .given .1) (c .before .before .before .before .before .before .before .before .t2 .given .1) (c .before .before .before .before .before .aim .ensures .1))
 
 returns-4 : (t : ℕ) → lts.Need-returns-4 (claims t) (emit-ptr-at t) emit-ptr.Post
-returns-4 t c = wrote-by (c .before .before .before .before .before .before .before .before .before .before .before .before .before .before .before .tick .ensures ▸ c .before .before .emit-mod-ptr .ensures) (target-modifier _ _ _ _ _ _ _ _ _ (c .before .before .before .before .before .before .before .before .before .before .before .before .before .before .before .before .before .before .before .before .before .entry .ensures) (c .before .before .before .before .before .before .before .before .before .before .before .before .before .before .before .before .before .before .before .before .if2 .left) (search (c .before .before .before .before .before .before .before .before .before .before .before .before .before .before .before .before .before .before .before .before .before .before .before .before .before .before .before .before .good .1 .1 .1 .1 .1 .1 .1 .0, needs)) (c .before .before .before .before .before .before .before .before .before .before .before .before .before .before .before .before .before .before .insert .ensures .2) (c .before .before .before .before .before .before .before .before .before .before .before .before .before .type-at .ensures) _ _ _ (c .before .before .before .before .before .before .before .before .before .before .before .t .given .1) (c .before .before .before .before .before .before .before .before .t3 .given .1) (c .before .before .before .before .before .over-pointee .ensures .1))
+returns-4 t c = wrote-by (c .before .before .before .before .before .before .before .before .before .before .before .before .before .before .before .tick .ensures ▸ c .before .before .via .ensures) (target-modifier _ _ _ _ _ _ _ _ _ (c .before .before .before .before .before .before .before .before .before .before .before .before .before .before .before .before .before .before .before .before .before .entry .ensures) (c .before .before .before .before .before .before .before .before .before .before .before .before .before .before .before .before .before .before .before .before .if2 .left) (search (c .before .before .before .before .before .before .before .before .before .before .before .before .before .before .before .before .before .before .before .before .before .before .before .before .before .before .before .before .good .1 .1 .1 .1 .1 .1 .1 .0, needs)) (c .before .before .before .before .before .before .before .before .before .before .before .before .before .before .before .before .before .before .insert .ensures .2) (c .before .before .before .before .before .before .before .before .before .before .before .before .before .type-at .ensures) _ _ _ (c .before .before .before .before .before .before .before .before .before .before .before .t .given .1) (c .before .before .before .before .before .before .before .before .t3 .given .1) (c .before .before .before .before .before .over-pointee .ensures .1))
 
 returns-5 : (t : ℕ) → lts.Need-returns-5 (claims t) (emit-ptr-at t) emit-ptr.Post
 returns-5 t c = wrote-by (c .before .before .before .before .before .before .before .before .before .before .before .tick .ensures ▸ c .before .before .emit-ptr-helper .ensures) (target-other _ _ _ _ _ _ _ _ _ (c .before .before .before .before .before .before .before .before .before .before .before .before .before .before .before .before .before .entry .ensures) (c .before .before .before .before .before .before .before .before .before .before .before .before .before .before .before .before .if2 .left) (search (c .before .before .before .before .before .before .before .before .before .before .before .before .before .before .before .before .before .before .before .before .before .before .before .before .good .1 .1 .1 .1 .1 .1 .1 .0, needs)) (c .before .before .before .before .before .before .before .before .before .before .before .before .before .before .insert .ensures .2) (c .before .before .before .before .before .before .before .before .before .type-at .ensures) _ (c .before .before .before .before .before .before .before .t .given .1) (c .before .before .before .before .before .match2 .keys3))
@@ -127,4 +127,4 @@ same-length-5 : (t : ℕ) → lts.Need-same-length-5 (claims t) (emit-ptr-at t) 
 same-length-5 t c = wrote-length (returns-6 t c)
 
 pub closed : {M : Type 1} (t : ℕ) → lts.Closed (claims t) (emit-ptr-at t) emit-ptr.Post M
-closed t = lts.spec (claims t) (emit-ptr-at t) emit-ptr.Post (is-idle-requires t) (returns t) (entry-requires t) (bar-requires t) (same-length t) (returns-2 t) (slice-aggregate-insert t) (insert-requires t) (tick-requires t) (type-at-requires t) (enum-known-t t) (enum-known-t-2 t) (aim-requires t) (array-share-prefix-list t) (slice-aggregate-emit-ptr t) (emit-ptr-requires t) (enum-known-t-3 t) (over-pointee-requires t) (array-share-prefix-list-2 t) (slice-aggregate-emit-mod-ptr t) (emit-mod-ptr-requires t) (array-share-prefix-list-3 t) (slice-aggregate-emit-ptr-helper t) (emit-ptr-helper-requires t) (enum-known-f t) (unread-requires t) (same-length-2 t) (returns-3 t) (same-length-3 t) (returns-4 t) (same-length-4 t) (returns-5 t) (same-length-5 t) (returns-6 t)
+closed t = lts.spec (claims t) (emit-ptr-at t) emit-ptr.Post (is-idle-requires t) (returns t) (entry-requires t) (bar-requires t) (same-length t) (returns-2 t) (slice-aggregate-insert t) (insert-requires t) (tick-requires t) (type-at-requires t) (enum-known-t t) (enum-known-t-2 t) (aim-requires t) (array-share-prefix-list t) (slice-aggregate-emit-ptr t) (emit-ptr-requires t) (enum-known-t-3 t) (over-pointee-requires t) (array-share-prefix-list-2 t) (slice-aggregate-via t) (via-requires t) (array-share-prefix-list-3 t) (slice-aggregate-emit-ptr-helper t) (emit-ptr-helper-requires t) (enum-known-f t) (unread-requires t) (same-length-2 t) (returns-3 t) (same-length-3 t) (returns-4 t) (same-length-4 t) (returns-5 t) (same-length-5 t) (returns-6 t)

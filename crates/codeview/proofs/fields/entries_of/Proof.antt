@@ -4,8 +4,8 @@ use borrow.Author.Tests.{le-leb, lt-leb}
 use Rattle.wire.proofs.Laws.{within32, read32, unread32}
 use Rattle.codeview.specs.Record.{entries}
 use borrow.Author.Needs.{needs}
-use Rattle.codeview.proofs.parts.entries_of.Statement.{statement}
-use Rattle.codeview.proofs.parts.entries_of.Tie as tie
+use Rattle.codeview.proofs.fields.entries_of.Statement.{statement}
+use Rattle.codeview.proofs.fields.entries_of.Tie as tie
 
 u32-at-requires : tie.Need-u32-at-requires
 u32-at-requires c κs = search needs

@@ -2,13 +2,13 @@
 use Prim.Native.Nat.{ℕ}
 use borrow.Author.Needs.{needs}
 use Rattle.pen.proofs.Laws.{wrote-by, wrote-marking, wrote-length, wrote-idle}
-use Rattle.type_writers.proofs.Laws.{text-is}
-use Rattle.type_writers.proofs.emit_type.Reads as emit-type
-use Rattle.type_writers.proofs.emit_type_inner.Reads as emit-type-inner
+use Rattle.emit.proofs.Laws.{text-is}
+use Rattle.emit.proofs.emit_type.Reads as emit-type
+use Rattle.emit.proofs.emit_type_inner.Reads as emit-type-inner
 use Rattle.pen.proofs.is_idle.Reads as is-idle-reads
 use Rattle.writers.proofs.marks.marked.Reads as marked-reads
-use Rattle.type_writers.proofs.+emit_arg_list+emit_args+emit_array+emit_member+emit_member_ptr+emit_method_args+emit_mod_ptr+emit_modifier+emit_other_ptr+emit_proc_ptr+emit_procedure+emit_ptr+emit_ptr_helper+emit_return_type+emit_type+emit_type_index+emit_type_inner.Lts-emit_type as lts
-use Rattle.type_writers.proofs.+emit_arg_list+emit_args+emit_array+emit_member+emit_member_ptr+emit_method_args+emit_mod_ptr+emit_modifier+emit_other_ptr+emit_proc_ptr+emit_procedure+emit_ptr+emit_ptr_helper+emit_return_type+emit_type+emit_type_index+emit_type_inner.Proof.Common.{emit-type-at, emit-type-inner-below}
+use Rattle.emit.proofs.+args+base+emit_arg_list+emit_array+emit_member_ptr+emit_method_args+emit_modifier+emit_other_ptr+emit_proc_ptr+emit_ptr+emit_ptr_helper+emit_return_type+emit_type+emit_type_index+emit_type_inner+via.Lts-emit_type as lts
+use Rattle.emit.proofs.+args+base+emit_arg_list+emit_array+emit_member_ptr+emit_method_args+emit_modifier+emit_other_ptr+emit_proc_ptr+emit_ptr+emit_ptr_helper+emit_return_type+emit_type+emit_type_index+emit_type_inner+via.Proof.Common.{emit-type-at, emit-type-inner-below}
 
 abbrev claims : ℕ → lts.Claims
 claims t = (is-idle-reads.Asked, is-idle-reads.Learnt, emit-type-inner-below t, emit-type-inner.Post, marked-reads.Asked, marked-reads.Learnt)

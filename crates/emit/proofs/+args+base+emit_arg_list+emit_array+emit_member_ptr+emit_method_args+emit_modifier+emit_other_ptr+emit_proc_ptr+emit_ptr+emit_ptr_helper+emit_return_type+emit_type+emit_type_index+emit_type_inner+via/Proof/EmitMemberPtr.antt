@@ -2,16 +2,16 @@
 use Prim.Native.Nat.{ℕ}
 use borrow.Author.Needs.{needs}
 use Rattle.pen.proofs.Laws.{_▸_, wrote-by, wrote-length}
-use Rattle.type_writers.specs.Walking.{methodOf}
-use Rattle.type_writers.proofs.Laws.{member-ptr-is}
-use Rattle.type_writers.proofs.emit_member_ptr.Reads as emit-member-ptr
-use Rattle.type_writers.proofs.emit_method_args.Reads as emit-method-args
-use Rattle.type_writers.proofs.emit_return_type.Reads as emit-return-type
-use Rattle.type_writers.proofs.emit_type_index.Reads as emit-type-index
+use Rattle.emit.specs.Walking.{methodOf}
+use Rattle.emit.proofs.Laws.{member-ptr-is}
+use Rattle.emit.proofs.emit_member_ptr.Reads as emit-member-ptr
+use Rattle.emit.proofs.emit_method_args.Reads as emit-method-args
+use Rattle.emit.proofs.emit_return_type.Reads as emit-return-type
+use Rattle.emit.proofs.emit_type_index.Reads as emit-type-index
 use Rattle.parts.proofs.attributes.emit_attributes.Reads as emit-attributes-reads
 use Rattle.pen.proofs.text.Reads as text-reads
-use Rattle.type_writers.proofs.+emit_arg_list+emit_args+emit_array+emit_member+emit_member_ptr+emit_method_args+emit_mod_ptr+emit_modifier+emit_other_ptr+emit_proc_ptr+emit_procedure+emit_ptr+emit_ptr_helper+emit_return_type+emit_type+emit_type_index+emit_type_inner.Lts-emit_member_ptr as lts
-use Rattle.type_writers.proofs.+emit_arg_list+emit_args+emit_array+emit_member+emit_member_ptr+emit_method_args+emit_mod_ptr+emit_modifier+emit_other_ptr+emit_proc_ptr+emit_procedure+emit_ptr+emit_ptr_helper+emit_return_type+emit_type+emit_type_index+emit_type_inner.Proof.Common.{emit-member-ptr-at, emit-method-args-below, emit-return-type-below, emit-type-index-below}
+use Rattle.emit.proofs.+args+base+emit_arg_list+emit_array+emit_member_ptr+emit_method_args+emit_modifier+emit_other_ptr+emit_proc_ptr+emit_ptr+emit_ptr_helper+emit_return_type+emit_type+emit_type_index+emit_type_inner+via.Lts-emit_member_ptr as lts
+use Rattle.emit.proofs.+args+base+emit_arg_list+emit_array+emit_member_ptr+emit_method_args+emit_modifier+emit_other_ptr+emit_proc_ptr+emit_ptr+emit_ptr_helper+emit_return_type+emit_type+emit_type_index+emit_type_inner+via.Proof.Common.{emit-member-ptr-at, emit-method-args-below, emit-return-type-below, emit-type-index-below}
 
 abbrev claims : ℕ → lts.Claims
 claims t = (emit-return-type-below t, emit-return-type.Post, text-reads.Asked, text-reads.Learnt, emit-type-index-below t, emit-type-index.Post, emit-attributes-reads.Asked, emit-attributes-reads.Learnt, emit-method-args-below t, emit-method-args.Post)

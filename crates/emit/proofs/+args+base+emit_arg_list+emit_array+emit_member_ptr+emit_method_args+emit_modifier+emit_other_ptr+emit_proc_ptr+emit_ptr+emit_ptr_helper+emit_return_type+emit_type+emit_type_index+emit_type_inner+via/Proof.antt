@@ -1,0 +1,41 @@
+-- The proof of the cycle of calls: a file for each member below `Proof/`.
+-- Assumes nothing.
+mod Common
+mod Args
+mod Base
+mod EmitArgList
+mod EmitArray
+mod EmitMemberPtr
+mod EmitMethodArgs
+mod EmitModifier
+mod EmitOtherPtr
+mod EmitProcPtr
+mod EmitPtr
+mod EmitPtrHelper
+mod EmitReturnType
+mod EmitType
+mod EmitTypeIndex
+mod EmitTypeInner
+mod Via
+use Rattle.emit.proofs.+args+base+emit_arg_list+emit_array+emit_member_ptr+emit_method_args+emit_modifier+emit_other_ptr+emit_proc_ptr+emit_ptr+emit_ptr_helper+emit_return_type+emit_type+emit_type_index+emit_type_inner+via.Proof.Common.{μ-args, μ-base, μ-emit-arg-list, μ-emit-array, μ-emit-member-ptr, μ-emit-method-args, μ-emit-modifier, μ-emit-other-ptr, μ-emit-proc-ptr, μ-emit-ptr, μ-emit-ptr-helper, μ-emit-return-type, μ-emit-type, μ-emit-type-index, μ-emit-type-inner, μ-via}
+use Rattle.emit.proofs.+args+base+emit_arg_list+emit_array+emit_member_ptr+emit_method_args+emit_modifier+emit_other_ptr+emit_proc_ptr+emit_ptr+emit_ptr_helper+emit_return_type+emit_type+emit_type_index+emit_type_inner+via.Proof.Args as args-proof
+use Rattle.emit.proofs.+args+base+emit_arg_list+emit_array+emit_member_ptr+emit_method_args+emit_modifier+emit_other_ptr+emit_proc_ptr+emit_ptr+emit_ptr_helper+emit_return_type+emit_type+emit_type_index+emit_type_inner+via.Proof.Base as base-proof
+use Rattle.emit.proofs.+args+base+emit_arg_list+emit_array+emit_member_ptr+emit_method_args+emit_modifier+emit_other_ptr+emit_proc_ptr+emit_ptr+emit_ptr_helper+emit_return_type+emit_type+emit_type_index+emit_type_inner+via.Proof.EmitArgList as emit-arg-list-proof
+use Rattle.emit.proofs.+args+base+emit_arg_list+emit_array+emit_member_ptr+emit_method_args+emit_modifier+emit_other_ptr+emit_proc_ptr+emit_ptr+emit_ptr_helper+emit_return_type+emit_type+emit_type_index+emit_type_inner+via.Proof.EmitArray as emit-array-proof
+use Rattle.emit.proofs.+args+base+emit_arg_list+emit_array+emit_member_ptr+emit_method_args+emit_modifier+emit_other_ptr+emit_proc_ptr+emit_ptr+emit_ptr_helper+emit_return_type+emit_type+emit_type_index+emit_type_inner+via.Proof.EmitMemberPtr as emit-member-ptr-proof
+use Rattle.emit.proofs.+args+base+emit_arg_list+emit_array+emit_member_ptr+emit_method_args+emit_modifier+emit_other_ptr+emit_proc_ptr+emit_ptr+emit_ptr_helper+emit_return_type+emit_type+emit_type_index+emit_type_inner+via.Proof.EmitMethodArgs as emit-method-args-proof
+use Rattle.emit.proofs.+args+base+emit_arg_list+emit_array+emit_member_ptr+emit_method_args+emit_modifier+emit_other_ptr+emit_proc_ptr+emit_ptr+emit_ptr_helper+emit_return_type+emit_type+emit_type_index+emit_type_inner+via.Proof.EmitModifier as emit-modifier-proof
+use Rattle.emit.proofs.+args+base+emit_arg_list+emit_array+emit_member_ptr+emit_method_args+emit_modifier+emit_other_ptr+emit_proc_ptr+emit_ptr+emit_ptr_helper+emit_return_type+emit_type+emit_type_index+emit_type_inner+via.Proof.EmitOtherPtr as emit-other-ptr-proof
+use Rattle.emit.proofs.+args+base+emit_arg_list+emit_array+emit_member_ptr+emit_method_args+emit_modifier+emit_other_ptr+emit_proc_ptr+emit_ptr+emit_ptr_helper+emit_return_type+emit_type+emit_type_index+emit_type_inner+via.Proof.EmitProcPtr as emit-proc-ptr-proof
+use Rattle.emit.proofs.+args+base+emit_arg_list+emit_array+emit_member_ptr+emit_method_args+emit_modifier+emit_other_ptr+emit_proc_ptr+emit_ptr+emit_ptr_helper+emit_return_type+emit_type+emit_type_index+emit_type_inner+via.Proof.EmitPtr as emit-ptr-proof
+use Rattle.emit.proofs.+args+base+emit_arg_list+emit_array+emit_member_ptr+emit_method_args+emit_modifier+emit_other_ptr+emit_proc_ptr+emit_ptr+emit_ptr_helper+emit_return_type+emit_type+emit_type_index+emit_type_inner+via.Proof.EmitPtrHelper as emit-ptr-helper-proof
+use Rattle.emit.proofs.+args+base+emit_arg_list+emit_array+emit_member_ptr+emit_method_args+emit_modifier+emit_other_ptr+emit_proc_ptr+emit_ptr+emit_ptr_helper+emit_return_type+emit_type+emit_type_index+emit_type_inner+via.Proof.EmitReturnType as emit-return-type-proof
+use Rattle.emit.proofs.+args+base+emit_arg_list+emit_array+emit_member_ptr+emit_method_args+emit_modifier+emit_other_ptr+emit_proc_ptr+emit_ptr+emit_ptr_helper+emit_return_type+emit_type+emit_type_index+emit_type_inner+via.Proof.EmitType as emit-type-proof
+use Rattle.emit.proofs.+args+base+emit_arg_list+emit_array+emit_member_ptr+emit_method_args+emit_modifier+emit_other_ptr+emit_proc_ptr+emit_ptr+emit_ptr_helper+emit_return_type+emit_type+emit_type_index+emit_type_inner+via.Proof.EmitTypeIndex as emit-type-index-proof
+use Rattle.emit.proofs.+args+base+emit_arg_list+emit_array+emit_member_ptr+emit_method_args+emit_modifier+emit_other_ptr+emit_proc_ptr+emit_ptr+emit_ptr_helper+emit_return_type+emit_type+emit_type_index+emit_type_inner+via.Proof.EmitTypeInner as emit-type-inner-proof
+use Rattle.emit.proofs.+args+base+emit_arg_list+emit_array+emit_member_ptr+emit_method_args+emit_modifier+emit_other_ptr+emit_proc_ptr+emit_ptr+emit_ptr_helper+emit_return_type+emit_type+emit_type_index+emit_type_inner+via.Proof.Via as via-proof
+use Rattle.emit.proofs.+args+base+emit_arg_list+emit_array+emit_member_ptr+emit_method_args+emit_modifier+emit_other_ptr+emit_proc_ptr+emit_ptr+emit_ptr_helper+emit_return_type+emit_type+emit_type_index+emit_type_inner+via.{statement}
+use Rattle.emit.proofs.+args+base+emit_arg_list+emit_array+emit_member_ptr+emit_method_args+emit_modifier+emit_other_ptr+emit_proc_ptr+emit_ptr+emit_ptr_helper+emit_return_type+emit_type+emit_type_index+emit_type_inner+via.Tie.{close}
+
+pub +args+base+emit-arg-list+emit-array+emit-member-ptr+emit-method-args+emit-modifier+emit-other-ptr+emit-proc-ptr+emit-ptr+emit-ptr-helper+emit-return-type+emit-type+emit-type-index+emit-type-inner+via-spec : {M : Type 1} → statement M
++args+base+emit-arg-list+emit-array+emit-member-ptr+emit-method-args+emit-modifier+emit-other-ptr+emit-proc-ptr+emit-ptr+emit-ptr-helper+emit-return-type+emit-type+emit-type-index+emit-type-inner+via-spec = close μ-args μ-base μ-emit-arg-list μ-emit-array μ-emit-member-ptr μ-emit-method-args μ-emit-modifier μ-emit-other-ptr μ-emit-proc-ptr μ-emit-ptr μ-emit-ptr-helper μ-emit-return-type μ-emit-type μ-emit-type-index μ-emit-type-inner μ-via args-proof.closed base-proof.closed emit-arg-list-proof.closed emit-array-proof.closed emit-member-ptr-proof.closed emit-method-args-proof.closed emit-modifier-proof.closed emit-other-ptr-proof.closed emit-proc-ptr-proof.closed emit-ptr-proof.closed emit-ptr-helper-proof.closed emit-return-type-proof.closed emit-type-proof.closed emit-type-index-proof.closed emit-type-inner-proof.closed via-proof.closed
