@@ -2,12 +2,12 @@
 // An argument NAME stands for NAME-types.bin, NAME-ids.bin and NAME-calls.bin; data/README.md has the form of the last.
 ghost use Rattle.io.specs.Counts.{Counts};
 use answers::Answer;
+use calls::SizeAnswer;
 use codeview::index::IdIndex;
 use codeview::index::TypeIndex;
 use libc::STDERR_FILENO;
 use libc::STDOUT_FILENO;
 use streams::refusal::Refusal;
-use type_formatter::SizeAnswer;
 use wire::field::Field32;
 
 // Where a list of calls has been read to, how many calls it made, and what holds for the next one.

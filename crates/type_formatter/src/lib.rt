@@ -1,116 +1,19 @@
-// The four calls: the text of a function, of an id and of a type, and the size of a type.
+// The four calls: the text of a function, of an id and of a type, and the size of a type. Each checks its streams; `calls` does the rest.
 ghost use mathlib.Core.Path.{_≡_};
-ghost use mathlib.Core.Bool.{_||_};
-ghost use lib.Dec.{eqb};
 ghost use lib.ListN.{length};
-ghost use Rattle.rules.specs.Call.{Demand, stopped, plainTo, functionText, functionReading, idText, idReading, typeText, typeReading, typeSize};
+ghost use Rattle.rules.specs.Call.{Demand, plainTo, functionText, functionReading, idText, idReading, typeText, typeReading, typeSize};
 ghost use Rattle.answers.specs.Answers.{given, laid};
-ghost use Rattle.type_formatter.specs.Checks.{checkedTypes, checkedCall, checkedIds, sizeGiven};
+ghost use Rattle.calls.specs.Checks.{sizeGiven};
 use answers::Answer;
-use answers::close;
-use answers::start;
+use calls::SizeAnswer;
+use calls::function_over;
+use calls::id_over;
+use calls::size_over;
+use calls::type_over;
 use codeview::index::IdIndex;
 use codeview::index::TypeIndex;
-use context::flags::Call;
-use context::flags::FlagsRead;
-use context::flags::TypeFormatterFlags;
-use emit::emit_type_index;
-use id_writers::emit_function;
-use id_writers::emit_id;
-use sizes::SizeRead;
-use streams::refusal::Refusal;
 use streams::refusal::StreamKind;
-use streams::stream::Stream;
-use streams::stream::StreamCheck;
 use streams::stream::check_stream;
-
-// What the checks of a call come to.
-pub enum Checked {
-    Good(Call),
-    Refused(Refusal),
-}
-
-pub enum SizeAnswer {
-    Bytes(u64),
-    Refused(Refusal),
-}
-
-fn is_pointer_size(size: u32) -> bool
-    ensures { λ r. ⌜ r ≡ (eqb size 4 || (eqb size 8 || eqb size 16)) ⌝ }
-{
-    if size == 4 {
-        return true;
-    }
-    if size == 8 {
-        return true;
-    }
-    size == 16
-}
-
-// A call with its flags known: the pointer size, then the types.
-fn check_types(types: &[u8], flags: TypeFormatterFlags, size: u32) -> Checked
-    ensures { λ r. ⌜ r ≡ checkedTypes (now (types .entry)) flags size ⌝ }
-{
-    if is_pointer_size(size) {
-        match check_stream(types, StreamKind::Types) {
-            StreamCheck::Good(t) => Checked::Good(Call {
-                flags,
-                size,
-                chain: 0,
-                types: t,
-                ids: Stream {
-                    first: 0,
-                    end: 0,
-                    stop: 0,
-                },
-            }),
-            StreamCheck::Refused(f) => Checked::Refused(f),
-        }
-    } else {
-        Checked::Refused(Refusal::PointerSize(size))
-    }
-}
-
-fn check_call(types: &[u8], flags: u32, size: u32) -> Checked
-    ensures { λ r. ⌜ r ≡ checkedCall (now (types .entry)) flags size ⌝ }
-{
-    match TypeFormatterFlags::from_bits(flags) {
-        FlagsRead::Known(known) => check_types(types, known, size),
-        FlagsRead::Refused(f) => Checked::Refused(f),
-    }
-}
-
-// The ids too.
-fn check_id_call(types: &[u8], ids: &[u8], flags: u32, size: u32) -> Checked
-    ensures { λ r. ⌜ r ≡ checkedIds (now (types .entry)) (now (ids .entry)) flags size ⌝ }
-{
-    match check_call(types, flags, size) {
-        Checked::Good(call) => match check_stream(ids, StreamKind::Ids) {
-            StreamCheck::Good(u) => {
-                let t = call.types;
-                let known = call.flags;
-                Checked::Good(Call {
-                    flags: known,
-                    size: call.size,
-                    chain: call.chain,
-                    types: t,
-                    ids: u,
-                })
-            }
-            StreamCheck::Refused(f) => Checked::Refused(f),
-        },
-        Checked::Refused(f) => Checked::Refused(f),
-    }
-}
-
-// A call that its checks refuse.
-fn refuse_call(out: &mut [u8], f: Refusal) -> Answer
-    ensures { λ r. ⌜ given (now (out .exit)) r ≡ laid (now (out .entry)) (stopped f) ⌝ }
-{
-    let p = start(out.len());
-    let q = pen::refuse(out, p, f);
-    close(out, q)
-}
 
 // The text of a function, by its name and type.
 pub fn format_function(
@@ -124,14 +27,8 @@ pub fn format_function(
     ensures { λ r. ⌜ given (now (out .exit)) r ≡ laid (now (out .entry)) (functionText flags size (now (types .entry)) (now (name .entry)) (index .0) (length (now (out .entry)))) ⌝ }
     ensures { λ _. ⌜ Demand (functionText flags size (now (types .entry)) (now (name .entry)) (index .0)) (λ n. functionReading (plainTo n) flags size (now (types .entry)) (now (name .entry)) (index .0)) ⌝ }
 {
-    match check_call(types, flags, size) {
-        Checked::Good(call) => {
-            let c = start(out.len());
-            let d = emit_function(types, b"", out, c, call, name, index);
-            close(out, d)
-        }
-        Checked::Refused(f) => refuse_call(out, f),
-    }
+    let t = check_stream(types, StreamKind::Types);
+    function_over(types, t, out, flags, size, name, index)
 }
 
 // The text of an id.
@@ -146,14 +43,9 @@ pub fn format_id(
     ensures { λ r. ⌜ given (now (out .exit)) r ≡ laid (now (out .entry)) (idText flags size (now (types .entry)) (now (ids .entry)) (index .0) (length (now (out .entry)))) ⌝ }
     ensures { λ _. ⌜ Demand (idText flags size (now (types .entry)) (now (ids .entry)) (index .0)) (λ n. idReading (plainTo n) flags size (now (types .entry)) (now (ids .entry)) (index .0)) ⌝ }
 {
-    match check_id_call(types, ids, flags, size) {
-        Checked::Good(call) => {
-            let first = start(out.len());
-            let last = emit_id(types, ids, out, first, call, 32, index);
-            close(out, last)
-        }
-        Checked::Refused(f) => refuse_call(out, f),
-    }
+    let t = check_stream(types, StreamKind::Types);
+    let u = check_stream(ids, StreamKind::Ids);
+    id_over(types, ids, t, u, out, flags, size, index)
 }
 
 // The text of a type.
@@ -161,26 +53,14 @@ pub fn format_type(types: &[u8], out: &mut [u8], flags: u32, size: u32, index: T
     ensures { λ r. ⌜ given (now (out .exit)) r ≡ laid (now (out .entry)) (typeText flags size (now (types .entry)) (index .0) (length (now (out .entry)))) ⌝ }
     ensures { λ _. ⌜ Demand (typeText flags size (now (types .entry)) (index .0)) (λ n. typeReading (plainTo n) flags size (now (types .entry)) (index .0)) ⌝ }
 {
-    match check_call(types, flags, size) {
-        Checked::Good(call) => {
-            let none = [0u64; 1];
-            let a = start(out.len());
-            let b = emit_type_index(types, b"", out, a, call, &none[..0], index);
-            close(out, b)
-        }
-        Checked::Refused(f) => refuse_call(out, f),
-    }
+    let t = check_stream(types, StreamKind::Types);
+    type_over(types, t, out, flags, size, index)
 }
 
 // The size of a type; this call takes no flags.
 pub fn get_type_size(types: &[u8], size: u32, index: TypeIndex) -> SizeAnswer
     ensures { λ r. ⌜ sizeGiven r ≡ typeSize size (now (types .entry)) (index .0) ⌝ }
 {
-    match check_types(types, TypeFormatterFlags(0), size) {
-        Checked::Good(call) => match sizes::get_type_size(types, call, index, 0) {
-            SizeRead::Bytes(n) => SizeAnswer::Bytes(n),
-            SizeRead::TooLong(i) => SizeAnswer::Refused(Refusal::ChainTooLong(i)),
-        },
-        Checked::Refused(f) => SizeAnswer::Refused(f),
-    }
+    let t = check_stream(types, StreamKind::Types);
+    size_over(types, t, size, index)
 }

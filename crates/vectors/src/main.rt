@@ -2,13 +2,13 @@
 // An argument NAME stands for NAME-types.bin and NAME-ids.bin.
 ghost use Rattle.io.specs.Counts.{Counts};
 use answers::Answer;
+use calls::SizeAnswer;
 use codeview::index::IdIndex;
 use codeview::index::TypeIndex;
 use libc::STDOUT_FILENO;
 use streams::refusal::Refusal;
 use streams::refusal::StreamKind;
 use streams::stream::StreamCheck;
-use type_formatter::SizeAnswer;
 
 // Which of the four calls is made.
 enum Call {

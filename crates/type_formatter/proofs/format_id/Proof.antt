@@ -1,64 +1,32 @@
--- The answer is that of the walk where the checks are good, and the refusal where they are not; demand 3 is a theorem of the rules.
+-- The checks of the two streams are handed on as they came; demand 3 is a theorem of the rules.
 -- Assumes nothing.
 use borrow.Author.Needs.{needs}
-use mathlib.Core.Path.{_∙_}
+use mathlib.Core.Path.{_∙_, ap}
 use Rattle.rules.proofs.Demand.{id-demand}
-use Rattle.type_formatter.proofs.Laws.{id-is, id-refused, all-left}
+use Rattle.answers.specs.Answers.{laid}
+use Rattle.type_formatter.proofs.Laws.{id-checked}
 use Rattle.type_formatter.proofs.format_id.Statement.{statement}
 use Rattle.type_formatter.proofs.format_id.Tie as tie
 use Rattle.type_formatter.proofs.format_id.Reads as reads
 use Rattle.type_formatter.proofs.format_id.Lts as lts
-use Rattle.answers.proofs.close.Reads as close-reads
-use Rattle.answers.proofs.start.Reads as start-reads
-use Rattle.id_writers.proofs.emit_id.Reads as emit-id-reads
-use Rattle.type_formatter.proofs.check_id_call.Reads as check-id-call-reads
-use Rattle.type_formatter.proofs.refuse_call.Reads as refuse-call-reads
+use Rattle.calls.proofs.id_over.Reads as id-over-reads
+use Rattle.streams.proofs.stream.check_stream.Reads as check-stream-reads
 
-check-id-call-requires : tie.Need-check-id-call-requires
-check-id-call-requires c κs = search needs
+check-stream-requires : tie.Need-check-stream-requires
+check-stream-requires c κs = search needs
 
-enum-known-call : tie.Need-enum-known-call
-enum-known-call c = search needs
+check-stream-requires-2 : tie.Need-check-stream-requires-2
+check-stream-requires-2 c κs = search needs
 
-start-requires : tie.Need-start-requires
-start-requires c κs = search needs
-
-emit-id-requires : tie.Need-emit-id-requires
-emit-id-requires c κs = all-left _ _ _ _ (c .before .before .before .before .before .check-id-call .ensures) (c .before .before .before .call .given .1)
-
-close-requires : tie.Need-close-requires
-close-requires c κs = search needs
-
-enum-known-f : tie.Need-enum-known-f
-enum-known-f c = search needs
-
-refuse-call-requires : tie.Need-refuse-call-requires
-refuse-call-requires c κs = search needs
+id-over-requires : tie.Need-id-over-requires
+id-over-requires c κs = search needs
 
 same-length : tie.Need-same-length
 same-length c = search needs
 
 returns : tie.Need-returns
-returns c = (c .before .before .close .ensures ∙ id-is _ _ _ _ (c .before .before .before .before .before .before .before .before .before .before .before .before .check-id-call .ensures) _ (c .before .before .before .before .before .before .before .before .before .before .call .given .1) (c .before .before .before .before .before .before .before .before .start .ensures) (c .before .before .before .before .before .before .emit-id .ensures), id-demand _ _ _ _ _)
-
-same-length-2 : tie.Need-same-length-2
-same-length-2 c = search needs
-
-returns-2 : tie.Need-returns-2
-returns-2 c = (c .before .before .refuse-call .ensures ∙ id-refused _ _ _ _ (c .before .before .before .before .before .before .before .check-id-call .ensures) _ _ (c .before .before .before .before .before .f .given .1), id-demand _ _ _ _ _)
+returns c = (c .before .before .id-over .ensures ∙ ap (laid _) (id-checked _ (c .before .before .before .before .before .check-stream .ensures) _ (c .before .before .before .before .check-stream2 .ensures) _ _ _ _), id-demand _ _ _ _ _)
 
 pub format-id-spec : {M : Type 1} → statement M
 format-id-spec =
-    tie.close
-    (tie.spec
-    check-id-call-requires
-    enum-known-call
-    start-requires
-    emit-id-requires
-    close-requires
-    enum-known-f
-    refuse-call-requires
-    same-length
-    returns
-    same-length-2
-    returns-2)
+    tie.close (tie.spec check-stream-requires check-stream-requires-2 id-over-requires same-length returns)

@@ -1,52 +1,24 @@
--- A size is what the walk of the size writes, and a chain that is too long is refusal 14.
+-- The check of the stream is handed on as it came.
 -- Assumes nothing.
 use borrow.Author.Needs.{needs}
-use mathlib.Core.Path.{ap}
-use Rattle.type_formatter.proofs.Laws.{sizeSaid, size-is, size-refused}
+use mathlib.Core.Path.{_∙_}
+use Rattle.type_formatter.proofs.Laws.{size-checked}
 use Rattle.type_formatter.proofs.get_type_size.Statement.{statement}
 use Rattle.type_formatter.proofs.get_type_size.Tie as tie
 use Rattle.type_formatter.proofs.get_type_size.Reads as reads
 use Rattle.type_formatter.proofs.get_type_size.Lts as lts
-use Rattle.sizes.proofs.get_type_size.Reads as get-type-size-reads
-use Rattle.type_formatter.proofs.check_types.Reads as check-types-reads
+use Rattle.calls.proofs.size_over.Reads as size-over-reads
+use Rattle.streams.proofs.stream.check_stream.Reads as check-stream-reads
 
-check-types-requires : tie.Need-check-types-requires
-check-types-requires c κs = search needs
+check-stream-requires : tie.Need-check-stream-requires
+check-stream-requires c κs = search needs
 
-enum-known-call : tie.Need-enum-known-call
-enum-known-call c = search needs
-
-get-type-size-requires : tie.Need-get-type-size-requires
-get-type-size-requires c κs = search needs
-
-enum-known-n : tie.Need-enum-known-n
-enum-known-n c = search needs
-
-enum-known-i : tie.Need-enum-known-i
-enum-known-i c = search needs
-
-enum-known-f : tie.Need-enum-known-f
-enum-known-f c = search needs
+size-over-requires : tie.Need-size-over-requires
+size-over-requires c κs = search needs
 
 returns : tie.Need-returns
-returns c = size-is _ _ _ (c .before .before .before .before .before .before .before .check-types .ensures) (c .before .before .before .before .before .call .given .1) (c .before .before .before .get-type-size .ensures) (ap sizeSaid (c .before .n .given .1))
-
-returns-2 : tie.Need-returns-2
-returns-2 c = size-is _ _ _ (c .before .before .before .before .before .before .before .check-types .ensures) (c .before .before .before .before .before .call .given .1) (c .before .before .before .get-type-size .ensures) (ap sizeSaid (c .before .i .given .1))
-
-returns-3 : tie.Need-returns-3
-returns-3 c = size-refused _ _ _ (c .before .before .before .check-types .ensures) (c .before .f .given .1)
+returns c = c .size-over .ensures ∙ size-checked _ (c .before .check-stream .ensures) _ _
 
 pub get-type-size-spec : {M : Type 1} → statement M
 get-type-size-spec =
-    tie.close
-    (tie.spec
-    check-types-requires
-    enum-known-call
-    get-type-size-requires
-    enum-known-n
-    enum-known-i
-    enum-known-f
-    returns
-    returns-2
-    returns-3)
+    tie.close (tie.spec check-stream-requires size-over-requires returns)

@@ -2,11 +2,11 @@
 -- Assumes nothing.
 use borrow.Author.Needs.{needs}
 use mathlib.Core.Path.{_∙_}
-use Rattle.type_formatter.proofs.Laws.{refusal-is}
-use Rattle.type_formatter.proofs.refuse_call.Statement.{statement}
-use Rattle.type_formatter.proofs.refuse_call.Tie as tie
-use Rattle.type_formatter.proofs.refuse_call.Reads as reads
-use Rattle.type_formatter.proofs.refuse_call.Lts as lts
+use Rattle.calls.proofs.Laws.{refusal-is}
+use Rattle.calls.proofs.refuse_call.Statement.{statement}
+use Rattle.calls.proofs.refuse_call.Tie as tie
+use Rattle.calls.proofs.refuse_call.Reads as reads
+use Rattle.calls.proofs.refuse_call.Lts as lts
 use Rattle.answers.proofs.close.Reads as close-reads
 use Rattle.answers.proofs.start.Reads as start-reads
 use Rattle.pen.proofs.refuse.Reads as refuse-reads

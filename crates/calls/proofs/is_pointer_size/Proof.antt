@@ -1,10 +1,10 @@
 -- Each return is a case of the test.
 -- Assumes nothing.
 use borrow.Author.Tests.{eq-eqb, ne-eqb}
-use Rattle.type_formatter.proofs.is_pointer_size.Statement.{statement}
-use Rattle.type_formatter.proofs.is_pointer_size.Tie as tie
-use Rattle.type_formatter.proofs.is_pointer_size.Reads as reads
-use Rattle.type_formatter.proofs.is_pointer_size.Lts as lts
+use Rattle.calls.proofs.is_pointer_size.Statement.{statement}
+use Rattle.calls.proofs.is_pointer_size.Tie as tie
+use Rattle.calls.proofs.is_pointer_size.Reads as reads
+use Rattle.calls.proofs.is_pointer_size.Lts as lts
 
 returns : tie.Need-returns
 returns c = simp (eq-eqb _ _ (c .if1 .taken))

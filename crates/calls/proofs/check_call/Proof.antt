@@ -2,13 +2,13 @@
 -- Assumes nothing.
 use borrow.Author.Needs.{needs}
 use mathlib.Core.Path.{_∙_}
-use Rattle.type_formatter.proofs.Laws.{call-known, call-unknown}
-use Rattle.type_formatter.proofs.check_call.Statement.{statement}
-use Rattle.type_formatter.proofs.check_call.Tie as tie
-use Rattle.type_formatter.proofs.check_call.Reads as reads
-use Rattle.type_formatter.proofs.check_call.Lts as lts
+use Rattle.calls.proofs.Laws.{call-known, call-unknown}
+use Rattle.calls.proofs.check_call.Statement.{statement}
+use Rattle.calls.proofs.check_call.Tie as tie
+use Rattle.calls.proofs.check_call.Reads as reads
+use Rattle.calls.proofs.check_call.Lts as lts
 use Rattle.context.proofs.flags.TypeFormatterFlags.from_bits.Reads as from-bits-reads
-use Rattle.type_formatter.proofs.check_types.Reads as check-types-reads
+use Rattle.calls.proofs.check_types.Reads as check-types-reads
 
 from-bits-requires : tie.Need-from-bits-requires
 from-bits-requires c κs = search needs
