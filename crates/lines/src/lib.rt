@@ -1,0 +1,3 @@
+// A sheet's commands, and the lines that are printed for them.
+pub mod command;
+pub mod line;

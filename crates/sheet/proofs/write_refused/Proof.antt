@@ -1,0 +1,27 @@
+-- The line is short enough for the buffer.
+-- Assumes nothing.
+use native.Mathlib.Omega.{arith}
+use Rattle.pen.proofs.Laws.{wrote-length}
+use Rattle.sheet.proofs.Laws.{line-whole, refused-room}
+use borrow.Author.Needs.{needs}
+use Rattle.sheet.proofs.write_refused.Statement.{statement}
+use Rattle.sheet.proofs.write_refused.Tie as tie
+use Rattle.sheet.proofs.write_refused.Reads as reads
+use Rattle.sheet.proofs.write_refused.Lts as lts
+use Rattle.answers.proofs.start.Reads as start-reads
+use Rattle.lines.proofs.line.emit_refused.Reads as emit-refused-reads
+
+start-requires : tie.Need-start-requires
+start-requires c κs = search needs
+
+emit-refused-requires : tie.Need-emit-refused-requires
+emit-refused-requires c κs = search needs
+
+returns : tie.Need-returns
+returns c = line-whole (c .before .before .before .before .start .ensures) (c .before .before .emit-refused .ensures) (refused-room _ _ (omega (arith, c .before .before .before .before .before .before .pre)))
+
+same-length : tie.Need-same-length
+same-length c = wrote-length (c .before .before .emit-refused .ensures)
+
+pub write-refused-spec : {M : Type 1} → statement M
+write-refused-spec = tie.close (tie.spec start-requires emit-refused-requires same-length returns)

@@ -1,0 +1,54 @@
+-- The line is short enough for the buffer; each answer is a case of the definition.
+-- Assumes nothing.
+use native.Mathlib.Omega.{arith}
+use Rattle.pen.proofs.Laws.{wrote-length}
+use Rattle.sheet.proofs.Laws.{line-whole, size-line, size-refused, refused-room, size-room}
+use borrow.Author.Needs.{needs}
+use Rattle.sheet.proofs.write_size.Statement.{statement}
+use Rattle.sheet.proofs.write_size.Tie as tie
+use Rattle.sheet.proofs.write_size.Reads as reads
+use Rattle.sheet.proofs.write_size.Lts as lts
+use Rattle.answers.proofs.start.Reads as start-reads
+use Rattle.lines.proofs.line.emit_refused.Reads as emit-refused-reads
+use Rattle.lines.proofs.line.emit_size.Reads as emit-size-reads
+
+start-requires : tie.Need-start-requires
+start-requires c κs = search needs
+
+enum-known-a : tie.Need-enum-known-a
+enum-known-a c = search needs
+
+emit-size-requires : tie.Need-emit-size-requires
+emit-size-requires c κs = search needs
+
+enum-known-a-2 : tie.Need-enum-known-a-2
+enum-known-a-2 c = search needs
+
+emit-refused-requires : tie.Need-emit-refused-requires
+emit-refused-requires c κs = search needs
+
+returns : tie.Need-returns
+returns c = size-line _ _ (c .before .before .before .before .before .a .given .1) (line-whole (c .before .before .before .before .before .before .before .start .ensures) (c .before .before .emit-size .ensures) (size-room _ _ (omega (arith, c .before .before .before .before .before .before .before .before .before .pre))))
+
+returns-2 : tie.Need-returns-2
+returns-2 c = size-refused _ _ (c .before .before .before .before .before .a2 .given .1) (line-whole (c .before .before .before .before .before .before .before .start .ensures) (c .before .before .emit-refused .ensures) (refused-room _ _ (omega (arith, c .before .before .before .before .before .before .before .before .before .pre))))
+
+same-length : tie.Need-same-length
+same-length c = wrote-length (c .before .before .emit-size .ensures)
+
+same-length-2 : tie.Need-same-length-2
+same-length-2 c = wrote-length (c .before .before .emit-refused .ensures)
+
+pub write-size-spec : {M : Type 1} → statement M
+write-size-spec =
+    tie.close
+    (tie.spec
+    start-requires
+    enum-known-a
+    emit-size-requires
+    enum-known-a-2
+    emit-refused-requires
+    same-length
+    returns
+    same-length-2
+    returns-2)

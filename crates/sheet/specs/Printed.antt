@@ -1,0 +1,56 @@
+-- What `print_sheet` leaves: the buffer and the counts.
+use Prim.Native.Nat.{ℕ, _+_, _-_, _<_}
+use mathlib.Core.Bool.{Bool, true, false}
+use mathlib.Core.List.{List, [], _∷_, _++_}
+use mathlib.Core.Path.{_≡_}
+use lib.Dec.{leb, ltb}
+use lib.ListN.{length, drop}
+use Rattle.wire.specs.Field.{pick}
+use Rattle.pen.specs.Page.{Page, page, ink}
+use Rattle.pen.specs.declared.Pen.{Pen}
+use Rattle.sheet.specs.Sheet.{Fit}
+use Rattle.sheet.specs.declared.Printed.{Printed}
+
+-- A line at the start of a buffer, the rest as it was, and its length.
+pub record Whole (buf l : List ℕ) (out : List ℕ) (n : ℕ) : Type 0 where
+  pub length-is : n ≡ length l
+  pub buffer-is : out ≡ l ++ drop (length l) buf
+
+-- A page, and whether there was no room.
+pub record Placed : Type 0 where
+  pub on : Page
+  pub full : Bool
+
+abbrev pub put : Page → Bool → Placed
+put g b = record { on = g; full = b }
+
+-- A line is left out where it was printed before, and where there is no room for the whole of it.
+unfoldable pub putOf : Page → Bool → List ℕ → Placed
+putOf g before l =
+    pick before (put g false)
+    (pick (leb (length l) (length (g .buf) - g .pen .at)) (put (ink g l) false) (put g true))
+
+-- The buffer at exit with the counts, and what they are of the lines that fit.
+pub record Shown : Type 0 where
+  pub buf : List ℕ
+  pub bytes : ℕ
+  pub lines : ℕ
+  pub more : Bool
+
+abbrev pub shown : List ℕ → Printed → Shown
+shown b r = record { buf = b; bytes = r .bytes; lines = r .lines; more = r .more }
+
+unfoldable pub laidOut : List ℕ → Fit → Shown
+laidOut buf f = record { buf = f .bytes ++ drop (length (f .bytes)) buf; bytes = length (f .bytes); lines = f .lines; more = f .more }
+
+-- The bytes of lines, one after another.
+unfoldable pub joined : List (List ℕ) → List ℕ
+joined [] = []
+joined (l ∷ ls) = l ++ joined ls
+
+-- Nothing is lost: what fits, and the lines behind it, are all that was asked for. A call that skips the printed lines too goes on there, and there is
+-- something for it to print exactly where lines are said to be left.
+pub record Continues (all : List (List ℕ)) (skip : ℕ) (f : Fit) : Type 0 where
+  pub kept : joined (drop skip all) ≡ f .bytes ++ joined (drop (skip + f .lines) all)
+  pub over : f .more ≡ false → drop (skip + f .lines) all ≡ []
+  pub left : f .more ≡ true → skip + f .lines < length all

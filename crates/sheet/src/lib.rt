@@ -1,0 +1,325 @@
+// Sheets: lists of commands, each text or size asked for answered by a line.
+ghost use mathlib.Core.Path.{_≡_};
+ghost use mathlib.Core.List.{_++_};
+ghost use Prim.Native.Nat.{_+_, _-_, _≤_, _<_};
+ghost use lib.Dec.{ltb};
+ghost use lib.ListN.{length, drop};
+ghost use Rattle.streams.specs.Stream.{checked};
+ghost use Rattle.streams.specs.declared.refusal.StreamKind.the-variants.{Types, Ids};
+ghost use Rattle.lines.specs.Command.{givenName};
+ghost use Rattle.pen.specs.Page.{page};
+ghost use Rattle.calls.specs.Checks.{sizeGiven};
+ghost use Rattle.lines.specs.Line.{sizeLine, refusedLine, outcomeLine};
+ghost use Rattle.rules.specs.Call.{functionText};
+ghost use Rattle.sheet.specs.Sheet.{afterOf, behindOf, stepOf, answerLine, lineOf, fit, sheetLines};
+ghost use Rattle.sheet.specs.Printed.{put, putOf, shown, laidOut, Whole, Continues};
+use answers::Answer;
+use answers::start;
+use calls::SizeAnswer;
+use calls::function_over;
+use calls::id_over;
+use calls::size_over;
+use calls::type_over;
+use codeview::index::IdIndex;
+use codeview::index::TypeIndex;
+use lines::command::Command;
+use lines::command::command_at;
+use lines::command::name_end;
+use lines::line::emit_refused;
+use lines::line::emit_size;
+use lines::line::emit_text;
+use pen::Pen;
+use streams::refusal::Refusal;
+use streams::refusal::StreamKind;
+use streams::stream::StreamCheck;
+use streams::stream::check_stream;
+use wire::name::Name;
+use writers::names::name_of;
+
+// Where a sheet has been read to, how many lines that makes, and what holds for the next command.
+pub struct State {
+    pub at: usize,
+    pub lines: usize,
+    pub flags: u32,
+    pub size: u32,
+}
+
+// What a command does: nothing, at the end; set something; print a line and end; print a line.
+pub enum Step {
+    Over,
+    Setting,
+    Last,
+    Line,
+}
+
+// The pen after a line, and whether there was no room for it.
+pub struct Put {
+    pub pen: Pen,
+    pub full: bool,
+}
+
+// How many bytes and lines were printed, and whether lines are left that did not fit.
+pub struct Printed {
+    pub bytes: usize,
+    pub lines: usize,
+    pub more: bool,
+}
+
+fn step_of(c: Command) -> Step
+    ensures { λ r. ⌜ r ≡ stepOf c ⌝ }
+{
+    match c {
+        Command::End => Step::Over,
+        Command::Flags(n) => Step::Setting,
+        Command::PointerSize(n) => Step::Setting,
+        Command::TypeText(i) => Step::Line,
+        Command::TypeSize(i) => Step::Line,
+        Command::IdText(i) => Step::Line,
+        Command::FunctionText(i) => Step::Line,
+        Command::Faulty(b) => Step::Last,
+    }
+}
+
+// Behind a command that prints a line.
+fn behind(s: State, width: usize) -> State
+    requires { ⌜ (s .at < 9223372036854775808) × ((s .lines < 9223372036854775808) × (width < 32)) ⌝ }
+    ensures { λ r. ⌜ r ≡ behindOf s width ⌝ }
+{
+    State {
+        at: s.at + width,
+        lines: s.lines + 1,
+        flags: s.flags,
+        size: s.size,
+    }
+}
+
+// Behind any command.
+fn after(s: State, c: Command) -> State
+    requires { ⌜ (s .at < 9223372036854775808) × (s .lines < 9223372036854775808) ⌝ }
+    ensures { λ r. ⌜ r ≡ afterOf s c ⌝ }
+{
+    match c {
+        Command::Flags(n) => State {
+            at: s.at + 5,
+            lines: s.lines,
+            flags: n,
+            size: s.size,
+        },
+        Command::PointerSize(n) => State {
+            at: s.at + 2,
+            lines: s.lines,
+            flags: s.flags,
+            size: n,
+        },
+        Command::FunctionText(i) => behind(s, 21),
+        Command::TypeText(i) => behind(s, 5),
+        Command::TypeSize(i) => behind(s, 5),
+        Command::IdText(i) => behind(s, 5),
+        Command::Faulty(b) => behind(s, 5),
+        Command::End => behind(s, 5),
+    }
+}
+
+// The line of a text call, by its answer and its buffer.
+fn write_answer(line: &mut [u8], number: u64, a: Answer, text: &[u8]) -> usize
+    requires { ⌜ length (now text) + 54 ≤ length (now line) ⌝ }
+    ensures { λ r. ⌜ Whole (now (line .entry)) (answerLine number (now (text .entry)) a) (now (line .exit)) r ⌝ }
+{
+    let p = start(line.len());
+    match a {
+        Answer::Text(n) => {
+            let q = emit_text(line, p, number, name_of(text, Name { start: 0, len: n }));
+            q.at
+        }
+        Answer::Refused(f) => {
+            let q = emit_refused(line, p, number, f);
+            q.at
+        }
+    }
+}
+
+// The line of a size call.
+fn write_size(line: &mut [u8], number: u64, a: SizeAnswer) -> usize
+    requires { ⌜ 74 ≤ length (now line) ⌝ }
+    ensures { λ r. ⌜ Whole (now (line .entry)) (sizeLine number (sizeGiven a)) (now (line .exit)) r ⌝ }
+{
+    let p = start(line.len());
+    match a {
+        SizeAnswer::Bytes(n) => {
+            let q = emit_size(line, p, number, n);
+            q.at
+        }
+        SizeAnswer::Refused(f) => {
+            let q = emit_refused(line, p, number, f);
+            q.at
+        }
+    }
+}
+
+fn write_refused(line: &mut [u8], number: u64, f: Refusal) -> usize
+    requires { ⌜ 74 ≤ length (now line) ⌝ }
+    ensures { λ r. ⌜ Whole (now (line .entry)) (refusedLine number f) (now (line .exit)) r ⌝ }
+{
+    let p = start(line.len());
+    let q = emit_refused(line, p, number, f);
+    q.at
+}
+
+fn done(p: Pen, lines: usize, skip: usize, more: bool) -> Printed
+    ensures { λ r. ⌜ (r .bytes ≡ p .at) × ((r .lines ≡ lines - skip) × (r .more ≡ more)) ⌝ }
+{
+    let bytes = p.at;
+    if lines < skip {
+        return Printed {
+            bytes,
+            lines: 0,
+            more,
+        };
+    }
+    Printed {
+        bytes,
+        lines: lines - skip,
+        more,
+    }
+}
+
+// The name of a function command, given the place of its 16 bytes.
+fn given_name<'a>(sheet: &'a [u8], at: usize) -> &'a [u8]
+    ensures { λ r. ⌜ now (r) ≡ givenName (now (sheet .entry)) at ⌝ }
+{
+    let end = name_end(sheet, at);
+    name_of(
+        sheet,
+        Name {
+            start: at,
+            len: end - at,
+        },
+    )
+}
+
+// The line of a function command.
+fn function_line(
+    types: &[u8],
+    sheet: &[u8],
+    t: StreamCheck,
+    line: &mut [u8],
+    s: State,
+    index: u32,
+) -> usize
+    requires { ⌜ (t ≡ checked Types (now types)) × ((4150 ≤ length (now line)) × ((s .at < 9223372036854775808) × (s .lines < 9223372036854775808))) ⌝ }
+    ensures { λ r. ⌜ Whole (now (line .entry)) (outcomeLine (s .lines + 1) (functionText (s .flags) (s .size) (now (types .entry)) (givenName (now (sheet .entry)) (s .at + 5)) index 4096)) (now (line .exit)) r ⌝ }
+{
+    let mut text = [0u8; 4096];
+    let name = given_name(sheet, s.at + 5);
+    let a = function_over(types, t, &mut text, s.flags, s.size, name, TypeIndex(index));
+    write_answer(line, (s.lines + 1) as u64, a, &text)
+}
+
+// The line of a command at the start of a buffer; of a command with no line, nothing.
+fn line_of(
+    types: &[u8],
+    ids: &[u8],
+    sheet: &[u8],
+    t: StreamCheck,
+    u: StreamCheck,
+    line: &mut [u8],
+    s: State,
+    c: Command,
+) -> usize
+    requires { ⌜ (t ≡ checked Types (now types)) × ((u ≡ checked Ids (now ids)) × ((4150 ≤ length (now line)) × ((s .at < 9223372036854775808) × (s .lines < 9223372036854775808)))) ⌝ }
+    ensures { λ r. ⌜ Whole (now (line .entry)) (lineOf (now (types .entry)) (now (ids .entry)) (now (sheet .entry)) s c) (now (line .exit)) r ⌝ }
+{
+    let number = (s.lines + 1) as u64;
+    let mut text = [0u8; 4096];
+    match c {
+        Command::TypeText(i) => {
+            let a = type_over(types, t, &mut text, s.flags, s.size, TypeIndex(i));
+            write_answer(line, number, a, &text)
+        }
+        Command::IdText(i) => {
+            let a = id_over(types, ids, t, u, &mut text, s.flags, s.size, IdIndex(i));
+            write_answer(line, number, a, &text)
+        }
+        Command::FunctionText(i) => function_line(types, sheet, t, line, s, i),
+        Command::TypeSize(i) => write_size(line, number, size_over(types, t, s.size, TypeIndex(i))),
+        Command::Faulty(b) => write_refused(line, number, Refusal::UnknownCommand(b)),
+        Command::End => 0,
+        Command::Flags(n) => 0,
+        Command::PointerSize(n) => 0,
+    }
+}
+
+// A line on the page, unless it was printed before or does not fit.
+fn put_line(
+    types: &[u8],
+    ids: &[u8],
+    sheet: &[u8],
+    t: StreamCheck,
+    u: StreamCheck,
+    out: &mut [u8],
+    p: Pen,
+    s: State,
+    c: Command,
+    skip: usize,
+) -> Put
+    requires { ⌜ (t ≡ checked Types (now types)) × ((u ≡ checked Ids (now ids)) × ((p .at ≤ length (now out)) × ((s .at < 9223372036854775808) × (s .lines < 9223372036854775808)))) ⌝ }
+    ensures { λ r. ⌜ put (page (now (out .exit)) (r .pen)) (r .full) ≡ putOf (page (now (out .entry)) p) (ltb (s .lines) skip) (lineOf (now (types .entry)) (now (ids .entry)) (now (sheet .entry)) s c) ⌝ }
+{
+    if s.lines < skip {
+        return Put {
+            pen: p,
+            full: false,
+        };
+    }
+    let mut line = [0u8; 4160];
+    let n = line_of(types, ids, sheet, t, u, &mut line, s, c);
+    if n > out.len() - p.at {
+        return Put { pen: p, full: true };
+    }
+    let q = pen::text(out, p, &line[..n]);
+    Put {
+        pen: q,
+        full: false,
+    }
+}
+
+// Prints a sheet's lines, without the first `skip` of them, as far as whole lines fit into the buffer. Each stream is checked once. A caller with more lines
+// to come prints the bytes and asks again, with as many more to skip as lines were printed.
+pub fn print_sheet(types: &[u8], ids: &[u8], sheet: &[u8], out: &mut [u8], skip: usize) -> Printed
+    ensures { λ r. ⌜ shown (now (out .exit)) r ≡ laidOut (now (out .entry)) (fit (length (now (out .entry))) (drop skip (sheetLines (now (types .entry)) (now (ids .entry)) (now (sheet .entry))))) ⌝ }
+    ensures { λ _. ⌜ Continues (sheetLines (now (types .entry)) (now (ids .entry)) (now (sheet .entry))) skip (fit (length (now (out .entry))) (drop skip (sheetLines (now (types .entry)) (now (ids .entry)) (now (sheet .entry))))) ⌝ }
+{
+    let t = check_stream(types, StreamKind::Types);
+    let u = check_stream(ids, StreamKind::Ids);
+    let mut p = start(out.len());
+    let mut s = State {
+        at: 0,
+        lines: 0,
+        flags: 0,
+        size: 8,
+    };
+    loop {
+        let c = command_at(sheet, s.at);
+        match step_of(c) {
+            Step::Over => return done(p, s.lines, skip, false),
+            Step::Setting => {
+                s = after(s, c);
+            }
+            Step::Last => {
+                let q = put_line(types, ids, sheet, t, u, out, p, s, c, skip);
+                if q.full {
+                    return done(q.pen, s.lines, skip, true);
+                }
+                return done(q.pen, s.lines + 1, skip, false);
+            }
+            Step::Line => {
+                let q = put_line(types, ids, sheet, t, u, out, p, s, c, skip);
+                if q.full {
+                    return done(q.pen, s.lines, skip, true);
+                }
+                p = q.pen;
+                s = after(s, c);
+            }
+        }
+    }
+}
