@@ -12,7 +12,8 @@ use native.Mathlib.Omega.{arith}
 use native.Mathlib.Decide.{decLt, decLe}
 use borrow.Author.Tests.{lt-ltb, le-ltb, lt-leb, le-leb}
 use Rattle.wire.specs.Field.{pick}
-use Rattle.reading.specs.Trace.{done, count}
+use Rattle.reading.specs.Trace as trace
+use Rattle.reading.specs.Trace.{Trace, tr, done, missing, refused, halted, again, deep, long, unfinished, count}
 use Rattle.rules.specs.Call as call
 use Rattle.pen.specs.Page.{Page, page, Wrote, say, ink, stopOf}
 use Rattle.pen.specs.declared.Pen.{Pen}
@@ -29,7 +30,7 @@ use Rattle.rules.specs.Text.{decimal}
 use Rattle.rules.specs.Record.{nameAt}
 use Rattle.streams.specs.Stream.{checked}
 use Rattle.streams.specs.declared.refusal.StreamKind.the-variants.{Types, Ids}
-use Rattle.streams.specs.declared.refusal.Refusal.the-variants.{UnknownCommand}
+use Rattle.streams.specs.declared.refusal.Refusal.the-variants.{UnknownCommand, Missing, CircularTypeDefinition, TooManyOpen, ChainTooLong, NoRoom}
 use Rattle.streams.specs.declared.stream.StreamCheck.{StreamCheck}
 use Rattle.rules.specs.Call.{functionText, idText, typeText, typeSize}
 use Rattle.calls.specs.Checks.{sizeGiven, functionOver, idOver, typeOver, sizeOver}
@@ -625,12 +626,84 @@ fit-left room (l ∷ ls) e = by (leb (length l) room) (fit-left (room - length l
     by true h e = let k = h e in omega arith
     by false h e = omega arith
 
-pub continues : (all : List (List ℕ)) (skip room : ℕ) → Continues all skip (fit room (drop skip all))
-continues all skip room =
+abbrev pub Short : List (List ℕ) → Type 0
+Short [] = Unit {0}
+Short (l ∷ ls) = (length l ≤ 4150) × Short ls
+
+no-room-line : (n room : ℕ) → length (outcomeLine n (call.stopped NoRoom)) ≤ 54 + room
+unfolding outcomeLine
+no-room-line n room = refused-room n NoRoom (omega arith)
+
+-- Each line has 4,150 bytes at most.
+said-length : (n room : ℕ) (bs : List ℕ) (k : ℕ) (e : trace.End Refusal) → length bs ≤ room → length (outcomeLine n (call.answer bs k e)) ≤ 54 + room
+unfolding outcomeLine call.answer
+said-length n room bs k done h = let l = text-length n bs in omega arith
+said-length n room bs k (missing i) h = refused-room n (Missing i) (omega arith)
+said-length n room bs k (refused f) h = refused-room n f (omega arith)
+said-length n room bs k (halted (again i)) h = refused-room n (CircularTypeDefinition i) (omega arith)
+said-length n room bs k (halted (deep i)) h = refused-room n (TooManyOpen i) (omega arith)
+said-length n room bs k (halted (long i)) h = refused-room n (ChainTooLong i) (omega arith)
+said-length n room bs k unfinished h = refused-room n NoRoom (omega arith)
+
+outcome-length : (n room : ℕ) (t : Trace Refusal) → length (outcomeLine n (call.within room t)) ≤ 54 + room
+unfolding call.within
+outcome-length n room (tr bs e ns c) = by (decLe (length bs) room)
+  where
+    by : Dec (length bs ≤ room) → length (outcomeLine n (pick (leb (length bs) room) (call.answer bs (c .opened) e) (call.stopped NoRoom))) ≤ 54 + room
+    by (yes h) = rw (le-leb (length bs) room h) (said-length n room bs (c .opened) e h)
+    by (no h) = rw (lt-leb (length bs) room (omega arith)) (no-room-line n room)
+
+size-line-length : (n : ℕ) (a : call.Size) → length (sizeLine n a) ≤ 4150
+unfolding sizeLine
+size-line-length n (call.bytes k) = size-room n k (omega arith)
+size-line-length n (call.unsized f) = refused-room n f (omega arith)
+
+module _ (types ids sheet : List ℕ) where
+  line-length : (s : State) (c : Command) → length (lineOf types ids sheet s c) ≤ 4150
+  unfolding lineOf typeText idText functionText
+  line-length s End = omega arith
+  line-length s (Flags n) = omega arith
+  line-length s (PointerSize n) = omega arith
+  line-length s (TypeText i) = outcome-length (s .lines + 1) 4096 _
+  line-length s (TypeSize i) = size-line-length (s .lines + 1) (typeSize (s .size) types i)
+  line-length s (IdText i) = outcome-length (s .lines + 1) 4096 _
+  line-length s (FunctionText i) = outcome-length (s .lines + 1) 4096 _
+  line-length s (Faulty b) = refused-room (s .lines + 1) (UnknownCommand b) (omega arith)
+
+  from-short : (k : ℕ) (s : State) → Short (linesFrom types ids sheet k s)
+  unfolding linesFrom
+  from-short zero s = tt
+  from-short (suc k) s =
+      let c = commandAt sheet (s .at) in
+      by (stepOf c) (lineOf types ids sheet s c) (linesFrom types ids sheet k (afterOf s c)) (line-length s c) (from-short k (afterOf s c))
+    where
+      by : (x : Step) (l : List ℕ) (ls : List (List ℕ)) → length l ≤ 4150 → Short ls → Short (byStep types ids sheet x l ls)
+      by step.Over l ls h i = tt
+      by step.Setting l ls h i = i
+      by step.Last l ls h i = (h, tt)
+      by step.Line l ls h i = (h, i)
+
+  pub sheet-short : Short (sheetLines types ids sheet)
+  unfolding sheetLines
+  sheet-short = from-short (length sheet) begin
+
+drop-short : (n : ℕ) (ls : List (List ℕ)) → Short ls → Short (drop n ls)
+drop-short zero ls h = h
+drop-short (suc n) [] h = h
+drop-short (suc n) (l ∷ ls) h = drop-short n ls (h .1)
+
+fit-some : (room : ℕ) (ls : List (List ℕ)) → Short ls → fit room ls .more ≡ true → 4150 ≤ room → 0 < fit room ls .lines
+unfolding fit
+fit-some room [] s e h = absurd (true-false (sym e))
+fit-some room (l ∷ ls) s e h = rw (le-leb (length l) room (omega (arith, s .0))) (omega arith)
+
+pub continues : (all : List (List ℕ)) (skip room : ℕ) → Short all → Continues all skip room (fit room (drop skip all))
+continues all skip room s =
     let f = fit room (drop skip all) in
     let d : drop (skip + f .lines) all ≡ drop (f .lines) (drop skip all) = sym (drop-drop (f .lines) skip all) in
     record {
       kept = rw d (fit-kept room (drop skip all));
       over = λ e. d ∙ fit-over room (drop skip all) e;
       left = λ e. let k = fit-left room (drop skip all) e in let l = length-drop skip all in omega arith;
+      some = fit-some room (drop skip all) (drop-short skip all s);
     }

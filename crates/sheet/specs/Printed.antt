@@ -1,5 +1,5 @@
 -- What `print_sheet` leaves: the buffer and the counts.
-use Prim.Native.Nat.{ℕ, _+_, _-_, _<_}
+use Prim.Native.Nat.{ℕ, _+_, _-_, _≤_, _<_}
 use mathlib.Core.Bool.{Bool, true, false}
 use mathlib.Core.List.{List, [], _∷_, _++_}
 use mathlib.Core.Path.{_≡_}
@@ -48,9 +48,10 @@ unfoldable pub joined : List (List ℕ) → List ℕ
 joined [] = []
 joined (l ∷ ls) = l ++ joined ls
 
--- Nothing is lost: what fits, and the lines behind it, are all that was asked for. A call that skips the printed lines too goes on there, and there is
--- something for it to print exactly where lines are said to be left.
-pub record Continues (all : List (List ℕ)) (skip : ℕ) (f : Fit) : Type 0 where
+-- Nothing is lost: what fits, and the lines behind it, are all that was asked for. A call that skips the printed lines too goes on there. There is
+-- something for it to print exactly where lines are said to be left, and a buffer of 4,150 bytes takes one line at least.
+pub record Continues (all : List (List ℕ)) (skip room : ℕ) (f : Fit) : Type 0 where
   pub kept : joined (drop skip all) ≡ f .bytes ++ joined (drop (skip + f .lines) all)
   pub over : f .more ≡ false → drop (skip + f .lines) all ≡ []
   pub left : f .more ≡ true → skip + f .lines < length all
+  pub some : f .more ≡ true → 4150 ≤ room → 0 < f .lines

@@ -287,7 +287,7 @@ fn put_line(
 // to come prints the bytes and asks again, with as many more to skip as lines were printed.
 pub fn print_sheet(types: &[u8], ids: &[u8], sheet: &[u8], out: &mut [u8], skip: usize) -> Printed
     ensures { λ r. ⌜ shown (now (out .exit)) r ≡ laidOut (now (out .entry)) (fit (length (now (out .entry))) (drop skip (sheetLines (now (types .entry)) (now (ids .entry)) (now (sheet .entry))))) ⌝ }
-    ensures { λ _. ⌜ Continues (sheetLines (now (types .entry)) (now (ids .entry)) (now (sheet .entry))) skip (fit (length (now (out .entry))) (drop skip (sheetLines (now (types .entry)) (now (ids .entry)) (now (sheet .entry))))) ⌝ }
+    ensures { λ _. ⌜ Continues (sheetLines (now (types .entry)) (now (ids .entry)) (now (sheet .entry))) skip (length (now (out .entry))) (fit (length (now (out .entry))) (drop skip (sheetLines (now (types .entry)) (now (ids .entry)) (now (sheet .entry))))) ⌝ }
 {
     let t = check_stream(types, StreamKind::Types);
     let u = check_stream(ids, StreamKind::Ids);

@@ -6,7 +6,7 @@ use mathlib.Core.Logic.{inl, inr}
 use mathlib.Core.Path.{_∙_}
 use lib.ListN.{length}
 use native.Mathlib.Omega.{arith}
-use Rattle.sheet.proofs.Laws.{Going, going-first, going-over, going-set, going-line, going-last, going-stuck, going-length, going-at, inside-set, inside-last, inside-line, less-set, less-line, put-length, full-as, continues}
+use Rattle.sheet.proofs.Laws.{Going, going-first, going-over, going-set, going-line, going-last, going-stuck, going-length, going-at, inside-set, inside-last, inside-line, less-set, less-line, put-length, full-as, continues, sheet-short}
 use Rattle.sheet.proofs.print_sheet.Statement.{statement}
 use Rattle.sheet.proofs.print_sheet.Tie as tie
 use Rattle.sheet.proofs.print_sheet.Reads as reads
@@ -50,7 +50,7 @@ done-requires : tie.Need-done-requires Inv-loop μ-loop
 done-requires c κs = search needs
 
 returns : tie.Need-returns Inv-loop μ-loop
-returns c = (going-over _ _ _ _ _ (c .before .before .before .before .before .loop .inv) (c .before .before .before .before .command-at .ensures) (c .before .before .before .step-of .ensures) (search (c .before .enum-told .given, needs)) (c .done .ensures), continues _ _ _)
+returns c = (going-over _ _ _ _ _ (c .before .before .before .before .before .loop .inv) (c .before .before .before .before .command-at .ensures) (c .before .before .before .step-of .ensures) (search (c .before .enum-told .given, needs)) (c .done .ensures), continues _ _ _ (sheet-short _ _ _))
 
 enum-told-2 : tie.Need-enum-told-2 Inv-loop μ-loop
 enum-told-2 c = search needs
@@ -74,7 +74,7 @@ done-requires-2 : tie.Need-done-requires-2 Inv-loop μ-loop
 done-requires-2 c κs = search needs
 
 returns-2 : tie.Need-returns-2 Inv-loop μ-loop
-returns-2 c = (going-stuck _ _ _ _ _ (c .before .before .before .before .before .before .before .before .before .before .loop .inv) (c .before .before .before .before .before .before .before .before .before .command-at .ensures) (c .before .before .before .before .before .before .before .before .step-of .ensures) (inl (search (c .before .before .before .before .before .before .enum-told3 .given, needs))) (full-as (c .before .if1 .taken) (c .before .before .before .before .put-line .ensures)) (c .done2 .ensures), continues _ _ _)
+returns-2 c = (going-stuck _ _ _ _ _ (c .before .before .before .before .before .before .before .before .before .before .loop .inv) (c .before .before .before .before .before .before .before .before .before .command-at .ensures) (c .before .before .before .before .before .before .before .before .step-of .ensures) (inl (search (c .before .before .before .before .before .before .enum-told3 .given, needs))) (full-as (c .before .if1 .taken) (c .before .before .before .before .put-line .ensures)) (c .done2 .ensures), continues _ _ _ (sheet-short _ _ _))
 
 add-done : tie.Need-add-done Inv-loop μ-loop
 add-done c = omega (arith, c .before .before .before .before .before .before .before .before .before .before .loop .inv .short, inside-last _ _ _ _ _ (c .before .before .before .before .before .before .before .before .before .before .loop .inv) (c .before .before .before .before .before .before .before .before .before .command-at .ensures) (c .before .before .before .before .before .before .before .before .step-of .ensures) (search (c .before .before .before .before .before .before .enum-told3 .given, needs)), c .before .before .before .before .before .before .before .before .before .before .loop .inv .low)
@@ -83,7 +83,7 @@ done-requires-3 : tie.Need-done-requires-3 Inv-loop μ-loop
 done-requires-3 c κs = search needs
 
 returns-3 : tie.Need-returns-3 Inv-loop μ-loop
-returns-3 c = (going-last _ _ _ _ _ (c .before .before .before .before .before .before .before .before .before .before .before .loop .inv) (c .before .before .before .before .before .before .before .before .before .before .command-at .ensures) (c .before .before .before .before .before .before .before .before .before .step-of .ensures) (search (c .before .before .before .before .before .before .before .enum-told3 .given, needs)) (full-as (c .before .before .if1 .left) (c .before .before .before .before .before .put-line .ensures)) (c .done3 .ensures), continues _ _ _)
+returns-3 c = (going-last _ _ _ _ _ (c .before .before .before .before .before .before .before .before .before .before .before .loop .inv) (c .before .before .before .before .before .before .before .before .before .before .command-at .ensures) (c .before .before .before .before .before .before .before .before .before .step-of .ensures) (search (c .before .before .before .before .before .before .before .enum-told3 .given, needs)) (full-as (c .before .before .if1 .left) (c .before .before .before .before .before .put-line .ensures)) (c .done3 .ensures), continues _ _ _ (sheet-short _ _ _))
 
 enum-told-4 : tie.Need-enum-told-4 Inv-loop μ-loop
 enum-told-4 c = search needs
@@ -95,7 +95,7 @@ done-requires-4 : tie.Need-done-requires-4 Inv-loop μ-loop
 done-requires-4 c κs = search needs
 
 returns-4 : tie.Need-returns-4 Inv-loop μ-loop
-returns-4 c = (going-stuck _ _ _ _ _ (c .before .before .before .before .before .before .before .before .before .before .loop .inv) (c .before .before .before .before .before .before .before .before .before .command-at .ensures) (c .before .before .before .before .before .before .before .before .step-of .ensures) (inr (search (c .before .before .before .before .before .before .enum-told4 .given, needs))) (full-as (c .before .if2 .taken) (c .before .before .before .before .put-line2 .ensures)) (c .done4 .ensures), continues _ _ _)
+returns-4 c = (going-stuck _ _ _ _ _ (c .before .before .before .before .before .before .before .before .before .before .loop .inv) (c .before .before .before .before .before .before .before .before .before .command-at .ensures) (c .before .before .before .before .before .before .before .before .step-of .ensures) (inr (search (c .before .before .before .before .before .before .enum-told4 .given, needs))) (full-as (c .before .if2 .taken) (c .before .before .before .before .put-line2 .ensures)) (c .done4 .ensures), continues _ _ _ (sheet-short _ _ _))
 
 after-requires-2 : tie.Need-after-requires-2 Inv-loop μ-loop
 after-requires-2 c κs = (omega (arith, c .before .before .before .before .before .before .before .before .before .before .loop .inv .short, inside-line _ _ _ _ _ (c .before .before .before .before .before .before .before .before .before .before .loop .inv) (c .before .before .before .before .before .before .before .before .before .command-at .ensures) (c .before .before .before .before .before .before .before .before .step-of .ensures) (search (c .before .before .before .before .before .before .enum-told4 .given, needs))), omega (arith, c .before .before .before .before .before .before .before .before .before .before .loop .inv .short, inside-line _ _ _ _ _ (c .before .before .before .before .before .before .before .before .before .before .loop .inv) (c .before .before .before .before .before .before .before .before .before .command-at .ensures) (c .before .before .before .before .before .before .before .before .step-of .ensures) (search (c .before .before .before .before .before .before .enum-told4 .given, needs)), c .before .before .before .before .before .before .before .before .before .before .loop .inv .low))
