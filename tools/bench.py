@@ -1,14 +1,17 @@
 #!/usr/bin/env python3
-"""Time and stack of the calls, by the program `cases` (see crates/cases/data/README.md for its files).
+"""Time and stack of the calls, by the program `cases` (see crates/cases/data/README.md for its files), and time of a sheet, by the program `sheets`.
 
-    rt check cases
-    tools/bench.py target/bin/cases
+    rt check cases sheets
+    tools/bench.py target/bin/cases target/bin/sheets
 
 Time: a call on a stream of n records is asked for many times, and the time of a run with no call is taken off. Every call walks the record heads once
 for the check; a look-up walks them up to its record. Stack: the least limit under which the deepest streams that the rules allow are read, less the
 least limit for a run with no call. Each is a row of 94 to 96 open indexes.
+
+Sheets: the ids of the real streams of `vectors`, and of a long stream, in one sheet and in a sheet for each id; and a sheet of one size that needs no
+look-up, which is the check of both streams and a line. The time of a run with empty sheets, which only reads the files, is taken off.
 """
-import os, resource, struct, subprocess, sys, tempfile, time
+import glob, os, resource, struct, subprocess, sys, tempfile, time
 
 FIRST = 0x1000
 
@@ -137,11 +140,54 @@ def deep(program, folder):
         print(f"  {label}: {least_stack(program, folder, 'deep', b' 0 0x0 ') - base}")
 
 
+def real_pairs():
+    data = os.path.join(os.path.dirname(os.path.abspath(__file__)), "..", "crates", "vectors", "data")
+    for path in sorted(glob.glob(os.path.join(data, "*-ids.bin"))):
+        types = path[:-len("ids.bin")] + "types.bin"
+        yield os.path.basename(path)[:-len("-ids.bin")], open(types, "rb").read(), open(path, "rb").read()
+
+
+def long_pair():
+    """Nearly 16,384 bytes each: records that are only walked over, and then a function type and its ids."""
+    filler = [record(0x1203, b"") for _ in range(4060)]
+    last = FIRST + len(filler)
+    function = record(0x1601, struct.pack("<II", 0, last + 1) + b"step\0")
+    return "long", stream(filler + [arguments(0x74), procedure(3, last)]), stream([record(0x1603, b"") for _ in range(4000)] + [function] * 15)
+
+
+def one_sheet(program, folder, types, ids, sheets, repeat):
+    """Microseconds for the sheets together, of a run that has them all this many times."""
+    for i, commands in enumerate(sheets):
+        for part, content in (("types", types), ("ids", ids), ("sheet", commands), ("none-types", types), ("none-ids", ids), ("none-sheet", b"")):
+            open(f"{folder}/s{i}-{part}.bin", "wb").write(content)
+    spent = [min(timed_run(program, folder, [f"s{i}{end}" for i in range(len(sheets))] * repeat) for _ in range(9)) for end in ("", "-none")]
+    return (spent[0] - spent[1]) / repeat * 1e6
+
+
+def timed_run(program, folder, names):
+    t = time.perf_counter()
+    subprocess.run([program] + names, cwd=folder, stdout=subprocess.DEVNULL, check=True)
+    return time.perf_counter() - t
+
+
+def sheet_times(program, folder):
+    print("microseconds for the ids of a pair of streams")
+    for name, types, ids in [*real_pairs(), long_pair()]:
+        first, end = struct.unpack("<II", ids[8:16])
+        calls = [struct.pack("<BI", 0x12, i) for i in range(first, end)][-60:]
+        whole = one_sheet(program, folder, types, ids, [b"".join(calls)], 200)
+        apart = one_sheet(program, folder, types, ids, calls, 200 // len(calls) + 1)
+        check = one_sheet(program, folder, types, ids, [struct.pack("<BI", 0x11, 0x74)], 1000)
+        records = sum(b - a for a, b in (struct.unpack("<II", s[8:16]) for s in (types, ids)))
+        print(f"  {name}: {records} records, {len(calls)} ids: one sheet {whole:.0f}, a sheet for each id {apart:.0f}, the check and a line {check:.1f}")
+
+
 def main():
-    program = os.path.abspath(sys.argv[1])
+    cases, sheets = map(os.path.abspath, sys.argv[1:])
     with tempfile.TemporaryDirectory() as folder:
-        timed(program, folder)
-        deep(program, folder)
+        timed(cases, folder)
+        deep(cases, folder)
+        sheet_times(sheets, folder)
 
 
 main()

@@ -1,10 +1,11 @@
 // Runs lists of calls over small streams and prints a line for each call.
 // An argument NAME stands for NAME-types.bin, NAME-ids.bin and NAME-calls.bin; data/README.md has the form of the last.
-ghost use Rattle.io.specs.Counts.{Counts};
 use answers::Answer;
 use calls::SizeAnswer;
 use codeview::index::IdIndex;
 use codeview::index::TypeIndex;
+use files::say;
+use files::within;
 use libc::STDERR_FILENO;
 use libc::STDOUT_FILENO;
 use streams::refusal::Refusal;
@@ -19,10 +20,6 @@ struct State {
     room: usize,
 }
 
-fn say(text: &[u8]) {
-    io::write_all(STDOUT_FILENO, text);
-}
-
 fn decimal(label: &[u8], n: u64) {
     say(label);
     io::print_decimal(STDOUT_FILENO, n);
@@ -31,13 +28,6 @@ fn decimal(label: &[u8], n: u64) {
 fn hex(label: &[u8], n: u32) {
     say(label);
     io::print_hex(STDOUT_FILENO, n as u64, 1);
-}
-
-// A number, or a slice's length where that is less.
-fn within(n: usize, s: &[u8]) -> usize
-    ensures { λ r. ⌜ Counts r (now (s .entry)) ⌝ }
-{
-    if n <= s.len() { n } else { s.len() }
 }
 
 // A buffer is lent full of this byte, so that what a call leaves alone can be seen.
@@ -349,50 +339,10 @@ fn run(types: &[u8], ids: &[u8], calls: &[u8]) {
     }
 }
 
-// A file's bytes; one that is not there has none.
-fn load(name: &[u8], ending: &[u8], data: &mut [u8]) -> usize {
-    let mut path = io::buffer();
-    let n = copy(name, 0, name.len(), &mut path);
-    let m = join(&mut path, n, ending);
-    load_from(&path, m, data)
-}
-
-fn join(path: &mut [u8], start: usize, ending: &[u8]) -> usize {
-    let mut at = start;
-    let mut i = 0;
-    while i < ending.len() {
-        if path.len() <= at {
-            return 0;
-        }
-        path[at] = ending[i];
-        at += 1;
-        i += 1;
-    }
-    at
-}
-
-fn load_from(path: &[u8], n: usize, data: &mut [u8]) -> usize {
-    let k = within(n, path);
-    let fd = os::open_read(&path[..k]);
-    if fd < 0 {
-        return 0;
-    }
-    let got = io::read_full(fd, data);
-    libc::close(fd);
-    got
-}
-
 fn title(name: &[u8]) {
     say(b"== ");
     say(name);
     say(b"\n");
-}
-
-fn with_calls(types: &[u8], t: usize, ids: &[u8], u: usize, calls: &[u8], c: usize) {
-    let i = within(t, types);
-    let j = within(u, ids);
-    let k = within(c, calls);
-    run(&types[..i], &ids[..j], &calls[..k]);
 }
 
 // Room for a type stream.
@@ -400,18 +350,19 @@ fn room() -> [u8; 131_072] {
     [0u8; 131_072]
 }
 
+// Most cases have no ids, so nothing is said of a file that is not there.
 fn show_case(name: &[u8]) {
     title(name);
     let mut types = room();
-    let t = load(name, b"-types.bin", &mut types);
+    let t = files::load_if_there(name, b"-types.bin", &mut types);
     let mut ids = io::large_buffer();
-    let u = load(name, b"-ids.bin", &mut ids);
+    let u = files::load_if_there(name, b"-ids.bin", &mut ids);
     let mut calls = io::large_buffer();
-    let c = load(name, b"-calls.bin", &mut calls);
+    let c = files::load_if_there(name, b"-calls.bin", &mut calls);
     if c == 0 {
         io::write_all(STDERR_FILENO, b"cases: no calls\n");
     }
-    with_calls(&types, t, &ids, u, &calls, c);
+    run(&types[..t], &ids[..u], &calls[..c]);
 }
 
 fn argument(i: usize) {

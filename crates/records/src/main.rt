@@ -23,6 +23,7 @@ use codeview::record::TypeData;
 use codeview::record::TypeRead;
 use codeview::record::UnionType;
 use codeview::record::UniqueName;
+use files::say;
 use libc::STDERR_FILENO;
 use libc::STDOUT_FILENO;
 use streams::refusal::Refusal;
@@ -32,10 +33,6 @@ use streams::stream::Stream;
 use streams::stream::StreamCheck;
 use wire::field::Field32;
 use wire::name::Name;
-
-fn say(text: &[u8]) {
-    io::write_all(STDOUT_FILENO, text);
-}
 
 fn hex(label: &[u8], n: u32) {
     say(label);

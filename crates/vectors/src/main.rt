@@ -1,10 +1,10 @@
 // Prints the texts of every id, type and function type and the size of every type of pairs of streams.
 // An argument NAME stands for NAME-types.bin and NAME-ids.bin.
-ghost use Rattle.io.specs.Counts.{Counts};
 use answers::Answer;
 use calls::SizeAnswer;
 use codeview::index::IdIndex;
 use codeview::index::TypeIndex;
+use files::say;
 use libc::STDOUT_FILENO;
 use streams::refusal::Refusal;
 use streams::refusal::StreamKind;
@@ -16,10 +16,6 @@ enum Call {
     Type,
     Function,
     Size,
-}
-
-fn say(text: &[u8]) {
-    io::write_all(STDOUT_FILENO, text);
 }
 
 fn hex(label: &[u8], n: u32) {
@@ -37,16 +33,9 @@ fn refused(f: Refusal) {
     hex(b" 0x", f.detail());
 }
 
-// A number, or a slice's length where that is less.
-fn within(n: usize, s: &[u8]) -> usize
-    ensures { λ r. ⌜ Counts r (now (s .entry)) ⌝ }
-{
-    if n <= s.len() { n } else { s.len() }
-}
-
 fn show(out: &[u8], n: usize) {
     say(b" 0 0x0 ");
-    let k = within(n, out);
+    let k = files::within(n, out);
     say(&out[..k]);
 }
 
@@ -140,60 +129,21 @@ fn report(types: &[u8], ids: &[u8]) {
     all_types(types, Call::Size, 0);
 }
 
-// A file's bytes; one that is not there has none.
-fn load(path: &[u8], data: &mut [u8]) -> usize {
-    let fd = os::open_read(path);
-    if fd < 0 {
-        os::fail(path);
-        return 0;
-    }
-    let n = io::read_full(fd, data);
-    libc::close(fd);
-    n
-}
-
-// Puts an ending behind a name and answers the length of both.
-fn join(path: &mut [u8], start: usize, ending: &[u8]) -> usize {
-    let mut at = start;
-    let mut i = 0;
-    while i < ending.len() {
-        if path.len() <= at {
-            return 0;
-        }
-        path[at] = ending[i];
-        at += 1;
-        i += 1;
-    }
-    at
-}
-
-fn load_prefix(path: &[u8], n: usize, data: &mut [u8]) -> usize {
-    let k = within(n, path);
-    load(&path[..k], data)
-}
-
-fn load_named(path: &mut [u8], n: usize, ending: &[u8], data: &mut [u8]) -> usize {
-    let m = join(path, n, ending);
-    load_prefix(path, m, data)
-}
-
-fn report_prefixes(types: &[u8], t: usize, ids: &[u8], u: usize) {
-    let k = within(t, types);
-    let m = within(u, ids);
-    report(&types[..k], &ids[..m]);
+fn show_pair(name: &[u8]) {
+    say(b"== ");
+    say(name);
+    say(b"\n");
+    let mut types = io::large_buffer();
+    let t = files::load_named(name, b"-types.bin", &mut types);
+    let mut ids = io::large_buffer();
+    let u = files::load_named(name, b"-ids.bin", &mut ids);
+    report(&types[..t], &ids[..u]);
 }
 
 fn argument(i: usize) {
-    let mut path = io::buffer();
-    let n = os::arg(i, &mut path);
-    say(b"== ");
-    say(&path[..n]);
-    say(b"\n");
-    let mut types = io::large_buffer();
-    let t = load_named(&mut path, n, b"-types.bin", &mut types);
-    let mut ids = io::large_buffer();
-    let u = load_named(&mut path, n, b"-ids.bin", &mut ids);
-    report_prefixes(&types, t, &ids, u);
+    let mut name = io::buffer();
+    let n = os::arg(i, &mut name);
+    show_pair(&name[..n]);
 }
 
 fn main() {

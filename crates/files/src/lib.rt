@@ -1,0 +1,86 @@
+// What the programs share: reading files up to a limit, and printing bytes. No contract can say what is read or printed.
+ghost use Prim.Native.Nat.{min};
+ghost use mathlib.Core.Path.{_≡_};
+ghost use lib.ListN.{length};
+ghost use Rattle.io.specs.Counts.{Counts};
+use libc::STDOUT_FILENO;
+
+// Prints bytes on standard output.
+pub fn say(text: &[u8]) {
+    io::write_all(STDOUT_FILENO, text);
+}
+
+// A number, or a slice's length where that is less.
+pub fn within(n: usize, s: &[u8]) -> usize
+    ensures { λ r. ⌜ Counts r (now (s .entry)) ⌝ }
+    ensures { λ r. ⌜ r ≡ min n (length (now (s .entry))) ⌝ }
+{
+    if n < s.len() { n } else { s.len() }
+}
+
+// Puts an ending behind the first bytes of a path and answers the length of both, or 0 where there is no room.
+fn join(path: &mut [u8], start: usize, ending: &[u8]) -> usize {
+    let mut at = start;
+    let mut i = 0;
+    while i < ending.len() {
+        if path.len() <= at {
+            return 0;
+        }
+        path[at] = ending[i];
+        at += 1;
+        i += 1;
+    }
+    at
+}
+
+// A path of two parts, and its length.
+fn make_path(path: &mut [u8], name: &[u8], ending: &[u8]) -> usize
+    ensures { λ r. ⌜ Counts r (now (path .exit)) ⌝ }
+{
+    let start = join(path, 0, name);
+    let n = join(path, start, ending);
+    within(n, path)
+}
+
+// As much of an open file as the slice takes, and how much that is.
+fn take(fd: i32, room: &mut [u8]) -> usize
+    ensures { λ r. ⌜ Counts r (now (room .exit)) ⌝ }
+{
+    let n = io::read_full(fd, room);
+    libc::close(fd);
+    n
+}
+
+// As much of a file as the slice takes. One that can't be opened counts as one of no bytes and is named on standard error.
+pub fn load(path: &[u8], room: &mut [u8]) -> usize
+    ensures { λ r. ⌜ Counts r (now (room .exit)) ⌝ }
+{
+    let fd = os::open_read(path);
+    if fd < 0 {
+        os::fail(path);
+        return 0;
+    }
+    take(fd, room)
+}
+
+// The same of a file whose name is given in two parts.
+pub fn load_named(name: &[u8], ending: &[u8], room: &mut [u8]) -> usize
+    ensures { λ r. ⌜ Counts r (now (room .exit)) ⌝ }
+{
+    let mut path = io::buffer();
+    let n = make_path(&mut path, name, ending);
+    load(&path[..n], room)
+}
+
+// The same, but nothing is said of a file that can't be opened.
+pub fn load_if_there(name: &[u8], ending: &[u8], room: &mut [u8]) -> usize
+    ensures { λ r. ⌜ Counts r (now (room .exit)) ⌝ }
+{
+    let mut path = io::buffer();
+    let n = make_path(&mut path, name, ending);
+    let fd = os::open_read(&path[..n]);
+    if fd < 0 {
+        return 0;
+    }
+    take(fd, room)
+}
