@@ -1,0 +1,146 @@
+// The calls for programs in C and Rust: each of the four calls and the sheet under its plain name, with numbers and byte slices only. What a call answers
+// beside its number goes into numbers that the caller lends. `c/yokberd.h` says the same to a C program.
+ghost use mathlib.Core.Path.{_≡_};
+ghost use lib.ListN.{length, drop};
+ghost use Rattle.rules.specs.Call.{Demand, plainTo, bufferAfter, functionText, functionReading, idText, idReading, typeText, typeReading, typeSize};
+ghost use Rattle.sheet.specs.Sheet.{fit, sheetLines};
+ghost use Rattle.sheet.specs.Printed.{laidOut, Continues};
+ghost use Rattle.yokberd.specs.Report.{report, ofAnswer, ofSizeAnswer, ofText, ofSize, counts, ofFit};
+use answers::Answer;
+use calls::SizeAnswer;
+use codeview::index::IdIndex;
+use codeview::index::TypeIndex;
+use sheet::print_sheet;
+use type_formatter::format_function;
+use type_formatter::format_id;
+use type_formatter::format_type;
+use type_formatter::get_type_size;
+
+fn report_text(a: Answer, detail: &mut u32, written: &mut usize) -> u32
+    ensures { λ r. ⌜ report r (now (detail .exit)) (now (written .exit)) ≡ ofAnswer a ⌝ }
+{
+    match a {
+        Answer::Text(n) => {
+            *detail = 0;
+            *written = n;
+            0
+        }
+        Answer::Refused(f) => {
+            *detail = f.detail();
+            *written = 0;
+            f.number()
+        }
+    }
+}
+
+fn report_size(a: SizeAnswer, detail: &mut u32, bytes: &mut u64) -> u32
+    ensures { λ r. ⌜ report r (now (detail .exit)) (now (bytes .exit)) ≡ ofSizeAnswer a ⌝ }
+{
+    match a {
+        SizeAnswer::Bytes(n) => {
+            *detail = 0;
+            *bytes = n;
+            0
+        }
+        SizeAnswer::Refused(f) => {
+            *detail = f.detail();
+            *bytes = 0;
+            f.number()
+        }
+    }
+}
+
+// The text of a function, by its name and type.
+#[no_mangle]
+pub extern "C" fn yokberd_format_function(
+    types: &[u8],
+    out: &mut [u8],
+    flags: u32,
+    size: u32,
+    name: &[u8],
+    index: u32,
+    detail: &mut u32,
+    written: &mut usize,
+) -> u32
+    ensures { λ r. ⌜ report r (now (detail .exit)) (now (written .exit)) ≡ ofText (functionText flags size (now (types .entry)) (now (name .entry)) index (length (now (out .entry)))) ⌝ }
+    ensures { λ _. ⌜ now (out .exit) ≡ bufferAfter (now (out .entry)) (functionText flags size (now (types .entry)) (now (name .entry)) index (length (now (out .entry)))) ⌝ }
+    ensures { λ _. ⌜ Demand (functionText flags size (now (types .entry)) (now (name .entry)) index) (λ n. functionReading (plainTo n) flags size (now (types .entry)) (now (name .entry)) index) ⌝ }
+{
+    let a = format_function(types, out, flags, size, name, TypeIndex(index));
+    report_text(a, detail, written)
+}
+
+// The text of an id.
+#[no_mangle]
+pub extern "C" fn yokberd_format_id(
+    types: &[u8],
+    ids: &[u8],
+    out: &mut [u8],
+    flags: u32,
+    size: u32,
+    index: u32,
+    detail: &mut u32,
+    written: &mut usize,
+) -> u32
+    ensures { λ r. ⌜ report r (now (detail .exit)) (now (written .exit)) ≡ ofText (idText flags size (now (types .entry)) (now (ids .entry)) index (length (now (out .entry)))) ⌝ }
+    ensures { λ _. ⌜ now (out .exit) ≡ bufferAfter (now (out .entry)) (idText flags size (now (types .entry)) (now (ids .entry)) index (length (now (out .entry)))) ⌝ }
+    ensures { λ _. ⌜ Demand (idText flags size (now (types .entry)) (now (ids .entry)) index) (λ n. idReading (plainTo n) flags size (now (types .entry)) (now (ids .entry)) index) ⌝ }
+{
+    let a = format_id(types, ids, out, flags, size, IdIndex(index));
+    report_text(a, detail, written)
+}
+
+// The text of a type.
+#[no_mangle]
+pub extern "C" fn yokberd_format_type(
+    types: &[u8],
+    out: &mut [u8],
+    flags: u32,
+    size: u32,
+    index: u32,
+    detail: &mut u32,
+    written: &mut usize,
+) -> u32
+    ensures { λ r. ⌜ report r (now (detail .exit)) (now (written .exit)) ≡ ofText (typeText flags size (now (types .entry)) index (length (now (out .entry)))) ⌝ }
+    ensures { λ _. ⌜ now (out .exit) ≡ bufferAfter (now (out .entry)) (typeText flags size (now (types .entry)) index (length (now (out .entry)))) ⌝ }
+    ensures { λ _. ⌜ Demand (typeText flags size (now (types .entry)) index) (λ n. typeReading (plainTo n) flags size (now (types .entry)) index) ⌝ }
+{
+    let a = format_type(types, out, flags, size, TypeIndex(index));
+    report_text(a, detail, written)
+}
+
+// The size of a type; this call takes no flags.
+#[no_mangle]
+pub extern "C" fn yokberd_get_type_size(
+    types: &[u8],
+    size: u32,
+    index: u32,
+    detail: &mut u32,
+    bytes: &mut u64,
+) -> u32
+    ensures { λ r. ⌜ report r (now (detail .exit)) (now (bytes .exit)) ≡ ofSize (typeSize size (now (types .entry)) index) ⌝ }
+{
+    let a = get_type_size(types, size, TypeIndex(index));
+    report_size(a, detail, bytes)
+}
+
+// A sheet's lines behind the first `skip` of them, as far as whole lines fit: 1 where lines are left, else 0.
+#[no_mangle]
+pub extern "C" fn yokberd_print_sheet(
+    types: &[u8],
+    ids: &[u8],
+    sheet: &[u8],
+    out: &mut [u8],
+    skip: usize,
+    bytes: &mut usize,
+    lines: &mut usize,
+) -> u32
+    ensures { λ r. ⌜ counts r (now (bytes .exit)) (now (lines .exit)) ≡ ofFit (fit (length (now (out .entry))) (drop skip (sheetLines (now (types .entry)) (now (ids .entry)) (now (sheet .entry))))) ⌝ }
+    ensures { λ _. ⌜ now (out .exit) ≡ laidOut (now (out .entry)) (fit (length (now (out .entry))) (drop skip (sheetLines (now (types .entry)) (now (ids .entry)) (now (sheet .entry))))) .buf ⌝ }
+    ensures { λ _. ⌜ Continues (sheetLines (now (types .entry)) (now (ids .entry)) (now (sheet .entry))) skip (length (now (out .entry))) (fit (length (now (out .entry))) (drop skip (sheetLines (now (types .entry)) (now (ids .entry)) (now (sheet .entry))))) ⌝ }
+{
+    let p = print_sheet(types, ids, sheet, out, skip);
+    *bytes = p.bytes;
+    *lines = p.lines;
+    if p.more { 1 } else { 0 }
+}
