@@ -1,0 +1,108 @@
+/* C++ signatures such as `advance(float)` from CodeView type and id indexes.
+ *
+ * `rt staticlib yokberd` builds the library, target/staticlib/libyokberd.a, for Linux on x86-64. Every function in it is proved to meet its contract
+ * (crates/yokberd/src/lib.rt): no bytes and no numbers make a call loop, read or write outside what it was lent, or answer by what was asked before.
+ *
+ * What a call asks of its caller is what C cannot state in a type:
+ *
+ * - No pointer is null, one with a length of 0 too. Each points to as many bytes as its length says; a length is at most PTRDIFF_MAX.
+ * - What a call writes (out, detail, text_len, size, bytes, lines) overlaps nothing else that it is lent, and no other thread touches it during the call.
+ *   What it only reads is changed by no one during the call. Calls from any number of threads may share what is only read.
+ * - 512 KiB of stack. A thread of glibc has 8 MiB where nothing else is said.
+ *
+ * A call keeps nothing, allocates nothing and calls nothing but memcpy and memset.
+ */
+#ifndef YOKBERD_H
+#define YOKBERD_H
+
+#include <stddef.h>
+#include <stdint.h>
+
+#ifdef __cplusplus
+extern "C" {
+#endif
+
+/* Flags, to be added up. Another bit is refused: YOKBERD_UNKNOWN_FLAGS. */
+#define YOKBERD_NO_FUNCTION_RETURN 0x01u        /* no result before the function's name */
+#define YOKBERD_NO_MEMBER_FUNCTION_STATIC 0x02u /* no `static ` before a static method */
+#define YOKBERD_SPACE_AFTER_COMMA 0x04u         /* f(int, int) */
+#define YOKBERD_SPACE_BEFORE_POINTER 0x08u      /* int * */
+#define YOKBERD_NAME_ONLY 0x10u                 /* A, not struct A */
+#define YOKBERD_NO_ARGUMENTS 0x20u              /* no argument list */
+
+/* What a call returns: YOKBERD_ACCEPTED, or the number of a refusal. The comment says what *detail then is. */
+enum yokberd_number {
+    YOKBERD_ACCEPTED = 0,                                        /* 0 */
+    YOKBERD_UNKNOWN_FLAGS = 1,                                   /* the flags, one of whose bits is no flag */
+    YOKBERD_POINTER_SIZE = 2,                                    /* the pointer size, which is not 4, 8 or 16 */
+    YOKBERD_HEADER = 3,                                          /* 0 types, 1 ids: the stream's header is broken, or it has over 16,777,216 bytes */
+    YOKBERD_TILING = 4,                                          /* 0 types, 1 ids: the records do not fill the bytes that the header names */
+    YOKBERD_MALFORMED = 5,                                       /* the index of a malformed record that is needed */
+    YOKBERD_CROSS_MODULE = 6,                                    /* an index with bit 31 set, which is one of another module */
+    YOKBERD_UNLISTED_KIND = 7,                                   /* the kind of a record that is needed and that is of no kind that is read */
+    YOKBERD_MISSING = 8,                                         /* an index that is not in its stream */
+    YOKBERD_ARGUMENT_TYPE_NOT_ARGUMENT_LIST = 9,                 /* the index of what stands for a method's argument list */
+    YOKBERD_FUNCTION_ID_IS_NOT_PROCEDURE_TYPE = 10,              /* the type index of a function id, which is no procedure */
+    YOKBERD_MEMBER_FUNCTION_ID_IS_NOT_MEMBER_FUNCTION_TYPE = 11, /* the type index of a member function id, which is no member function */
+    YOKBERD_CIRCULAR_TYPE_DEFINITION = 12,                       /* the index that is met inside itself */
+    YOKBERD_TOO_MANY_OPEN = 13,                                  /* the 97th index that would be open at once */
+    YOKBERD_CHAIN_TOO_LONG = 14,                                 /* the 33rd record of a chain of array levels, size steps or id scopes */
+    YOKBERD_NO_ROOM = 15,                                        /* 0: the text is longer than out */
+    YOKBERD_UNKNOWN_COMMAND = 16                                 /* the command byte; only a line of a sheet has this number */
+};
+
+/* The text of a function, an id or a type.
+ *
+ *   types, ids      the whole type stream and id stream of a .pdb (streams 2 and 4)
+ *   out             the buffer for the text
+ *   flags           a sum of the flags above
+ *   pointer_size    of the program's machine: 4, 8 or 16
+ *   name            the bytes of the function's name, without a closing zero
+ *   index           the index of the function's type, of the id, of the type
+ *
+ * Accepted: returns YOKBERD_ACCEPTED. *text_len is the length of the text, which is the first *text_len bytes of out; there is no closing zero, and the
+ * bytes of out behind the text are as they were. *detail is 0. A text has the names' bytes as they stand in the records, which may not be UTF-8.
+ *
+ * Refused: returns the refusal's number, 1 to 15. *detail is its detail, *text_len is 0, and every byte of out is 0.
+ */
+uint32_t yokberd_format_function(const uint8_t *types, size_t types_len, uint8_t *out, size_t out_len, uint32_t flags, uint32_t pointer_size,
+                                 const uint8_t *name, size_t name_len, uint32_t index, uint32_t *detail, size_t *text_len);
+
+uint32_t yokberd_format_id(const uint8_t *types, size_t types_len, const uint8_t *ids, size_t ids_len, uint8_t *out, size_t out_len, uint32_t flags,
+                           uint32_t pointer_size, uint32_t index, uint32_t *detail, size_t *text_len);
+
+uint32_t yokberd_format_type(const uint8_t *types, size_t types_len, uint8_t *out, size_t out_len, uint32_t flags, uint32_t pointer_size,
+                             uint32_t index, uint32_t *detail, size_t *text_len);
+
+/* The size of a type in bytes; what cannot be read has the size 0.
+ *
+ * Accepted: returns YOKBERD_ACCEPTED, *size is the size, *detail is 0. Refused: returns YOKBERD_POINTER_SIZE, YOKBERD_HEADER, YOKBERD_TILING or
+ * YOKBERD_CHAIN_TOO_LONG, *detail is its detail, *size is 0.
+ */
+uint32_t yokberd_get_type_size(const uint8_t *types, size_t types_len, uint32_t pointer_size, uint32_t index, uint32_t *detail, uint64_t *size);
+
+/* Many calls in one, with each stream checked once. A sheet is a list of commands, numbers little-endian:
+ *
+ *   0x01 u32            sets the flags, 0 at the start
+ *   0x02 u8             sets the pointer size, 8 at the start
+ *   0x10 u32            the text of a type
+ *   0x11 u32            the size of a type
+ *   0x12 u32            the text of an id
+ *   0x13 u32 u8[16]     the text of a function: its type; its name, which ends at a zero or with the 16 bytes
+ *
+ * Each of the last four makes a line: its number from 1, the refusal or 0, its detail in hexadecimal, and then a space and the text or the decimal size, if
+ * there is one; then a line feed. A text has at most 4,096 bytes here. An unknown or cut command makes a line of YOKBERD_UNKNOWN_COMMAND and ends the sheet.
+ *
+ * Writes as many whole lines behind the first skip as fit, to the start of out; the bytes behind them are as they were. *bytes and *lines say how much
+ * that is. Returns 0 where no line is left and 1 where lines are left: then ask again, with *lines more to skip. A buffer of YOKBERD_LINE bytes takes any
+ * one line, so with it each call goes on. Nothing is refused but by a line.
+ */
+#define YOKBERD_LINE 4150
+uint32_t yokberd_print_sheet(const uint8_t *types, size_t types_len, const uint8_t *ids, size_t ids_len, const uint8_t *sheet, size_t sheet_len,
+                             uint8_t *out, size_t out_len, size_t skip, size_t *bytes, size_t *lines);
+
+#ifdef __cplusplus
+}
+#endif
+
+#endif

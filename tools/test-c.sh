@@ -1,0 +1,50 @@
+#!/bin/sh
+# Compiles c/example.c against c/yokberd.h and the library, runs it on a shipped pair of streams, and compares what it prints: the ids with the lines of
+# crates/vectors/stdout, which a reading of document 01 in Python made, the rest with lines worked out by hand. Then once more under a sanitizer, and, where
+# it is installed, under valgrind.
+#
+#     rt staticlib yokberd && tools/test-c.sh
+#
+# The last line is 'test-c: passed'; else the status is not 0.
+set -eu
+root=$(cd "$(dirname "$0")/.." && pwd)
+cd "$root"
+archive=target/staticlib/libyokberd.a
+[ -f "$archive" ] || { echo "test-c: $archive is not there: run rt staticlib yokberd" >&2; exit 1; }
+work=$(mktemp -d)
+trap 'rm -rf "$work"' EXIT
+cc=${CC:-cc}
+pair=crates/vectors/data/overloads
+
+# the section of `overloads` with the example's flags, 0x1e
+awk '/^== /{on = $2 == "overloads"; ids = 0; next} !/^0x/{ids = on && $0 == "ids flags 0x1e"; next} ids && $2 == 0 {sub(/ 0 0x0 /, " "); print}' \
+    crates/vectors/stdout >"$work/expected"
+cat >>"$work/expected" <<'END'
+function 0x1001 void advance(float)
+type 0x640 float*, 8 bytes
+1 0 0x0 void loom::advance(float)
+2 0 0x0 4
+3 0 0x0 int*
+4 16 0xff
+END
+
+compare() {
+    "$@" "$pair-types.bin" "$pair-ids.bin" >"$work/printed"
+    cmp "$work/printed" "$work/expected"
+}
+
+"$cc" -std=c99 -Wall -Wextra -Wpedantic -Werror -O2 -Ic -o "$work/example" c/example.c "$archive"
+compare "$work/example"
+echo "test-c: $(wc -l <"$work/expected") lines as expected"
+if command -v c++ >/dev/null; then
+    c++ -Wall -Wextra -Wpedantic -Werror -fsyntax-only -x c++ c/yokberd.h
+    echo "test-c: the header is C++ too"
+fi
+"$cc" -std=c99 -g -fsanitize=address,undefined -fno-sanitize-recover=all -Ic -o "$work/sanitized" c/example.c "$archive"
+compare "$work/sanitized"
+echo "test-c: the same with the address and undefined behaviour sanitizers"
+if command -v valgrind >/dev/null; then
+    compare valgrind -q --error-exitcode=1 --leak-check=full "$work/example"
+    echo "test-c: the same under valgrind"
+fi
+echo "test-c: passed"
