@@ -1,0 +1,20 @@
+//! Says where the proved library is: in `YOKBERD_LIB_DIR`, or where `rt staticlib yokberd` puts it.
+use std::env;
+use std::path::PathBuf;
+
+fn main() {
+    println!("cargo:rerun-if-env-changed=YOKBERD_LIB_DIR");
+    let folder = match env::var_os("YOKBERD_LIB_DIR") {
+        Some(folder) => PathBuf::from(folder),
+        None => PathBuf::from(env::var_os("CARGO_MANIFEST_DIR").unwrap()).join("../target/staticlib"),
+    };
+    let archive = folder.join("libyokberd.a");
+    println!("cargo:rerun-if-changed={}", archive.display());
+    if !archive.is_file() {
+        eprintln!("{} is not there. Run `rt staticlib yokberd` in the folder above rust/, or set YOKBERD_LIB_DIR.", archive.display());
+        std::process::exit(1);
+    }
+    let folder = folder.canonicalize().unwrap();
+    println!("cargo:rustc-link-search=native={}", folder.display());
+    println!("cargo:rustc-link-lib=static=yokberd");
+}

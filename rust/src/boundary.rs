@@ -1,0 +1,167 @@
+//! The five functions of the proved library, each behind a safe one.
+//!
+//! The library asks nothing of the numbers and bytes that it is lent: bad ones are refused. What it asks is what Rust's slices and references are by
+//! themselves: pointers that are not null and aligned, to as many bytes as the length says, at most `isize::MAX`, a lent buffer that nothing else reaches
+//! while the call runs. So the safe functions have nothing left to test. They turn a refusal into an [`Error`].
+use crate::Error;
+
+/// How much a sheet call printed.
+///
+/// The lines themselves are the first `bytes` bytes of the buffer.
+#[derive(Clone, Copy, Debug, PartialEq, Eq)]
+pub struct Printed {
+    /// How many bytes were printed.
+    pub bytes: usize,
+    /// How many lines they are.
+    pub lines: usize,
+    /// Whether lines are left that did not fit.
+    pub more: bool,
+}
+
+mod library {
+    // `rt staticlib yokberd` builds it; c/yokberd.h documents it.
+    extern "C" {
+        pub fn yokberd_format_function(
+            types: *const u8,
+            types_len: usize,
+            out: *mut u8,
+            out_len: usize,
+            flags: u32,
+            pointer_size: u32,
+            name: *const u8,
+            name_len: usize,
+            index: u32,
+            detail: *mut u32,
+            text_len: *mut usize,
+        ) -> u32;
+        pub fn yokberd_format_id(
+            types: *const u8,
+            types_len: usize,
+            ids: *const u8,
+            ids_len: usize,
+            out: *mut u8,
+            out_len: usize,
+            flags: u32,
+            pointer_size: u32,
+            index: u32,
+            detail: *mut u32,
+            text_len: *mut usize,
+        ) -> u32;
+        pub fn yokberd_format_type(
+            types: *const u8,
+            types_len: usize,
+            out: *mut u8,
+            out_len: usize,
+            flags: u32,
+            pointer_size: u32,
+            index: u32,
+            detail: *mut u32,
+            text_len: *mut usize,
+        ) -> u32;
+        pub fn yokberd_get_type_size(types: *const u8, types_len: usize, pointer_size: u32, index: u32, detail: *mut u32, bytes: *mut u64) -> u32;
+        pub fn yokberd_print_sheet(
+            types: *const u8,
+            types_len: usize,
+            ids: *const u8,
+            ids_len: usize,
+            sheet: *const u8,
+            sheet_len: usize,
+            out: *mut u8,
+            out_len: usize,
+            skip: usize,
+            bytes: *mut usize,
+            lines: *mut usize,
+        ) -> u32;
+    }
+}
+
+fn answer<T>(number: u32, detail: u32, value: T) -> Result<T, Error> {
+    if number == 0 {
+        return Ok(value);
+    }
+    Err(Error::from_refusal(number, detail).expect("the library refuses by the numbers of its table"))
+}
+
+/// The text of a function in the start of `out`, and its length.
+pub fn format_function(types: &[u8], out: &mut [u8], flags: u32, pointer_size: u32, name: &[u8], index: u32) -> Result<usize, Error> {
+    let (mut detail, mut text_len) = (0, 0);
+    // SAFETY: the pointers and lengths are those of slices that live through the call, and `out` and the two numbers are lent to it alone.
+    let number = unsafe {
+        library::yokberd_format_function(
+            types.as_ptr(),
+            types.len(),
+            out.as_mut_ptr(),
+            out.len(),
+            flags,
+            pointer_size,
+            name.as_ptr(),
+            name.len(),
+            index,
+            &mut detail,
+            &mut text_len,
+        )
+    };
+    answer(number, detail, text_len)
+}
+
+/// The text of an id in the start of `out`, and its length.
+pub fn format_id(types: &[u8], ids: &[u8], out: &mut [u8], flags: u32, pointer_size: u32, index: u32) -> Result<usize, Error> {
+    let (mut detail, mut text_len) = (0, 0);
+    // SAFETY: as in `format_function`.
+    let number = unsafe {
+        library::yokberd_format_id(
+            types.as_ptr(),
+            types.len(),
+            ids.as_ptr(),
+            ids.len(),
+            out.as_mut_ptr(),
+            out.len(),
+            flags,
+            pointer_size,
+            index,
+            &mut detail,
+            &mut text_len,
+        )
+    };
+    answer(number, detail, text_len)
+}
+
+/// The text of a type in the start of `out`, and its length.
+pub fn format_type(types: &[u8], out: &mut [u8], flags: u32, pointer_size: u32, index: u32) -> Result<usize, Error> {
+    let (mut detail, mut text_len) = (0, 0);
+    // SAFETY: as in `format_function`.
+    let number = unsafe {
+        library::yokberd_format_type(types.as_ptr(), types.len(), out.as_mut_ptr(), out.len(), flags, pointer_size, index, &mut detail, &mut text_len)
+    };
+    answer(number, detail, text_len)
+}
+
+/// The size of a type.
+pub fn get_type_size(types: &[u8], pointer_size: u32, index: u32) -> Result<u64, Error> {
+    let (mut detail, mut bytes) = (0, 0);
+    // SAFETY: as in `format_function`.
+    let number = unsafe { library::yokberd_get_type_size(types.as_ptr(), types.len(), pointer_size, index, &mut detail, &mut bytes) };
+    answer(number, detail, bytes)
+}
+
+/// The lines of a sheet behind the first `skip`, as far as whole lines fit.
+pub fn print_sheet(types: &[u8], ids: &[u8], sheet: &[u8], out: &mut [u8], skip: usize) -> Printed {
+    let (mut bytes, mut lines) = (0, 0);
+    // SAFETY: as in `format_function`.
+    let left = unsafe {
+        library::yokberd_print_sheet(
+            types.as_ptr(),
+            types.len(),
+            ids.as_ptr(),
+            ids.len(),
+            sheet.as_ptr(),
+            sheet.len(),
+            out.as_mut_ptr(),
+            out.len(),
+            skip,
+            &mut bytes,
+            &mut lines,
+        )
+    };
+    Printed { bytes, lines, more: left != 0 }
+}

@@ -1,0 +1,178 @@
+//! `TypeFormatter`: the API of the original over the proved library.
+use crate::{boundary, Error, IdIndex, Printed, Sheet, TypeFormatterFlags, TypeIndex};
+use std::fmt::Write;
+
+type Result<T> = std::result::Result<T, Error>;
+
+/// The longest text that a formatter gives, in bytes, where [`TypeFormatter::with_text_limit`] sets no other.
+pub const TEXT_LIMIT: usize = 1 << 20;
+
+// A text's buffer at first; most texts fit. A longer one is asked for again, with a buffer so many times as long.
+const FIRST_BUFFER: usize = 512;
+const GROWTH: usize = 8;
+
+// A buffer for a sheet's lines: any one line has at most 4,150 bytes.
+const PAGE: usize = 1 << 16;
+
+/// Allows printing function signatures, for example for use in stack traces.
+///
+/// It is made over the bytes of the type stream and the id stream of a PDB. Nothing is read then. Each call checks its streams, so that a damaged one is
+/// refused and nothing else: every call ends, and its answer is the one that the library is proved to give, whatever was asked before.
+///
+/// A text is bytes as they stand in the records, which may not be UTF-8. The calls named as in the original give a `String`, in which each ill-formed part
+/// is replaced by U+FFFD; those with `_bytes` give the bytes, those with `_into` write them into a buffer of the caller's and allocate nothing.
+///
+/// The module index is taken so that calls written for the original can stay as they are. It is not used: an index that leads into another module, which
+/// has bit 31 set, is refused ([`Error::CrossModule`]).
+///
+/// ```
+/// use yokberd::{TypeFormatter, TypeFormatterFlags, TypeIndex};
+///
+/// let types = std::fs::read("../crates/vectors/data/overloads-types.bin")?;
+/// let ids = std::fs::read("../crates/vectors/data/overloads-ids.bin")?;
+/// let formatter = TypeFormatter::new_from_parts(&types, &ids, 8, TypeFormatterFlags::default());
+/// assert_eq!(formatter.format_id(0, 0x1001.into())?, "loom::advance(float)");
+/// assert_eq!(formatter.format_function("advance", 0, TypeIndex(0x1001))?, "advance(float)");
+/// assert_eq!(formatter.format_type(0, TypeIndex(0x40))?, "float");
+/// assert_eq!(formatter.get_type_size(0, TypeIndex(0x40))?, 4);
+/// # Ok::<(), Box<dyn std::error::Error>>(())
+/// ```
+#[derive(Clone, Copy, Debug)]
+pub struct TypeFormatter<'a> {
+    types: &'a [u8],
+    ids: &'a [u8],
+    ptr_size: u8,
+    flags: TypeFormatterFlags,
+    text_limit: usize,
+}
+
+impl<'a> TypeFormatter<'a> {
+    /// A formatter over the bytes of a type stream and an id stream (streams 2 and 4 of a PDB), for a machine with pointers of `ptr_size` bytes.
+    pub const fn new_from_parts(types: &'a [u8], ids: &'a [u8], ptr_size: u8, flags: TypeFormatterFlags) -> Self {
+        TypeFormatter { types, ids, ptr_size, flags, text_limit: TEXT_LIMIT }
+    }
+
+    /// The same formatter with another limit for the texts that it allocates; a longer text is refused with [`Error::NoRoom`].
+    pub const fn with_text_limit(self, text_limit: usize) -> Self {
+        TypeFormatter { text_limit, ..self }
+    }
+
+    /// Get the size, in bytes, of the type at `index`. What cannot be read has the size 0, as in the original; a broken stream, a bad pointer size and a
+    /// chain of more than 32 records are refused.
+    pub fn get_type_size(&self, _module_index: usize, index: TypeIndex) -> Result<u64> {
+        boundary::get_type_size(self.types, self.ptr_size.into(), index.0)
+    }
+
+    /// Return a string with the function or method signature, including return type (if requested), namespace and/or class qualifiers, and arguments.
+    /// If the TypeIndex is 0, then only the raw name is emitted.
+    pub fn format_function(&self, name: &str, module_index: usize, function_type_index: TypeIndex) -> Result<String> {
+        Ok(into_string(self.format_function_bytes(name.as_bytes(), module_index, function_type_index)?))
+    }
+
+    /// [`format_function`](Self::format_function) with bytes for the name and the text.
+    pub fn format_function_bytes(&self, name: &[u8], module_index: usize, function_type_index: TypeIndex) -> Result<Vec<u8>> {
+        self.text(|out| self.format_function_into(out, name, module_index, function_type_index))
+    }
+
+    /// [`format_function`](Self::format_function) into the start of a buffer; gives the text's length. The bytes behind the text stay as they were. Where
+    /// the call is refused, the whole buffer is filled with zeros.
+    pub fn format_function_into(&self, out: &mut [u8], name: &[u8], _module_index: usize, function_type_index: TypeIndex) -> Result<usize> {
+        boundary::format_function(self.types, out, self.flags.bits(), self.ptr_size.into(), name, function_type_index.0)
+    }
+
+    /// Write out the text of [`format_function`](Self::format_function). Where the call is refused, nothing is written.
+    pub fn emit_function(&self, w: &mut impl Write, name: &str, module_index: usize, function_type_index: TypeIndex) -> Result<()> {
+        Ok(w.write_str(&self.format_function(name, module_index, function_type_index)?)?)
+    }
+
+    /// Return a string with the function or method signature of an id, including return type (if requested), namespace and/or class qualifiers, and
+    /// arguments. This method is used for inlined functions.
+    pub fn format_id(&self, module_index: usize, id_index: IdIndex) -> Result<String> {
+        Ok(into_string(self.format_id_bytes(module_index, id_index)?))
+    }
+
+    /// [`format_id`](Self::format_id) as bytes.
+    pub fn format_id_bytes(&self, module_index: usize, id_index: IdIndex) -> Result<Vec<u8>> {
+        self.text(|out| self.format_id_into(out, module_index, id_index))
+    }
+
+    /// [`format_id`](Self::format_id) into the start of a buffer, which is left as [`format_function_into`](Self::format_function_into) leaves it.
+    pub fn format_id_into(&self, out: &mut [u8], _module_index: usize, id_index: IdIndex) -> Result<usize> {
+        boundary::format_id(self.types, self.ids, out, self.flags.bits(), self.ptr_size.into(), id_index.0)
+    }
+
+    /// Write out the text of [`format_id`](Self::format_id). Where the call is refused, nothing is written.
+    pub fn emit_id(&self, w: &mut impl Write, module_index: usize, id_index: IdIndex) -> Result<()> {
+        Ok(w.write_str(&self.format_id(module_index, id_index)?)?)
+    }
+
+    /// Return a string with the text of a type. The original writes it too, as a part of signatures, and offers no call for it.
+    pub fn format_type(&self, module_index: usize, index: TypeIndex) -> Result<String> {
+        Ok(into_string(self.format_type_bytes(module_index, index)?))
+    }
+
+    /// [`format_type`](Self::format_type) as bytes.
+    pub fn format_type_bytes(&self, module_index: usize, index: TypeIndex) -> Result<Vec<u8>> {
+        self.text(|out| self.format_type_into(out, module_index, index))
+    }
+
+    /// [`format_type`](Self::format_type) into the start of a buffer, which is left as [`format_function_into`](Self::format_function_into) leaves it.
+    pub fn format_type_into(&self, out: &mut [u8], _module_index: usize, index: TypeIndex) -> Result<usize> {
+        boundary::format_type(self.types, out, self.flags.bits(), self.ptr_size.into(), index.0)
+    }
+
+    /// Write out the text of [`format_type`](Self::format_type). Where the call is refused, nothing is written.
+    pub fn emit_type(&self, w: &mut impl Write, module_index: usize, index: TypeIndex) -> Result<()> {
+        Ok(w.write_str(&self.format_type(module_index, index)?)?)
+    }
+
+    /// A sheet that starts with the formatter's flags and pointer size.
+    pub fn sheet(&self) -> Sheet {
+        let mut sheet = Sheet::new();
+        sheet.flags(self.flags).pointer_size(self.ptr_size);
+        sheet
+    }
+
+    /// Answers a sheet: many calls in one, with each stream checked once. Gives all lines. Flags and pointer size are those that the sheet sets, and its
+    /// texts have at most 4,096 bytes.
+    pub fn sheet_lines(&self, sheet: &Sheet) -> Vec<u8> {
+        let mut page = vec![0; PAGE];
+        let mut lines = Vec::new();
+        let mut skip = 0;
+        loop {
+            let printed = self.print_sheet(sheet, &mut page, skip);
+            lines.extend_from_slice(&page[..printed.bytes]);
+            skip += printed.lines;
+            if !printed.more {
+                return lines;
+            }
+        }
+    }
+
+    /// [`sheet_lines`](Self::sheet_lines) into the start of a buffer: as many whole lines behind the first `skip` as fit. Where there are more, ask again
+    /// with as many more to skip as lines were printed. A buffer of 4,150 bytes takes any one line. The bytes behind the lines stay as they were.
+    pub fn print_sheet(&self, sheet: &Sheet, out: &mut [u8], skip: usize) -> Printed {
+        boundary::print_sheet(self.types, self.ids, sheet.as_bytes(), out, skip)
+    }
+
+    // A text in a buffer that is long enough for it, up to the limit.
+    fn text(&self, call: impl Fn(&mut [u8]) -> Result<usize>) -> Result<Vec<u8>> {
+        let mut room = FIRST_BUFFER.min(self.text_limit);
+        loop {
+            let mut out = vec![0; room];
+            match call(&mut out) {
+                Ok(text_len) => {
+                    out.truncate(text_len);
+                    return Ok(out);
+                }
+                Err(Error::NoRoom) if room < self.text_limit => room = room.saturating_mul(GROWTH).min(self.text_limit),
+                Err(error) => return Err(error),
+            }
+        }
+    }
+}
+
+// The text where it is UTF-8; else a copy with each ill-formed part replaced.
+fn into_string(text: Vec<u8>) -> String {
+    String::from_utf8(text).unwrap_or_else(|error| String::from_utf8_lossy(error.as_bytes()).into_owned())
+}
