@@ -1,8 +1,7 @@
 // The primitive types: one table of 43 kinds, searched by the low byte of a primitive's index.
 ghost use mathlib.Core.Path.{_≡_};
-ghost use Prim.Native.Nat.{_<_};
-ghost use lib.ListN.{getD};
-ghost use Rattle.primitives.specs.Primitive.{primitives, empty, firstOf, listed, nowhere};
+ghost use lib.ListN.{length};
+ghost use Rattle.primitives.specs.Primitive.{primitives, firstOf, listed, nowhere};
 
 // A kind: its code, its byte size, and its name, which is the first `len` of the bytes.
 pub struct PrimitiveKind {
@@ -279,21 +278,14 @@ const PRIMITIVES: [PrimitiveKind; 43] = [
     },
 ];
 
-// An entry of the table.
-fn kind_at(i: usize) -> PrimitiveKind
-    requires { ⌜ i < 43 ⌝ }
-    ensures { λ r. ⌜ r ≡ getD primitives i empty ⌝ }
-{
-    PRIMITIVES[i]
-}
-
-// The kind of a code.
-pub fn find_primitive(code: u8) -> PrimitiveSearch
-    ensures { λ r. ⌜ r ≡ firstOf code primitives listed nowhere ⌝ }
+// The kind of a code in a table.
+fn search(table: [PrimitiveKind; 43], code: u8) -> PrimitiveSearch
+    requires { ⌜ length table ≡ 43 ⌝ }
+    ensures { λ r. ⌜ r ≡ firstOf code table listed nowhere ⌝ }
 {
     let mut i = 0;
     while i < 43 {
-        let kind = kind_at(i);
+        let kind = table[i];
         if kind.code == code {
             return PrimitiveSearch { listed: true, kind };
         }
@@ -309,4 +301,11 @@ pub fn find_primitive(code: u8) -> PrimitiveSearch
         listed: false,
         kind,
     }
+}
+
+// The kind of a code.
+pub fn find_primitive(code: u8) -> PrimitiveSearch
+    ensures { λ r. ⌜ r ≡ firstOf code primitives listed nowhere ⌝ }
+{
+    search(PRIMITIVES, code)
 }
