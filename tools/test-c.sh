@@ -33,6 +33,14 @@ compare() {
     cmp "$work/printed" "$work/expected"
 }
 
+# the header's numbers are those of the library
+sed -n '/pub fn number/,/pub fn detail/s/^ *Refusal::\([A-Za-z]*\).* => \([0-9]*\),$/\1 \2/p' crates/streams/src/refusal.rt |
+    sed 's/\([a-z]\)\([A-Z]\)/\1_\2/g' | tr '[:lower:]' '[:upper:]' >"$work/numbers"
+sed -n 's/^ *YOKBERD_\([A-Z_]*\) = \([1-9][0-9]*\).*/\1 \2/p' c/yokberd.h >"$work/named"
+[ "$(wc -l <"$work/numbers")" -eq 16 ]
+cmp "$work/numbers" "$work/named"
+echo "test-c: the header names the library's 16 refusals"
+
 "$cc" -std=c99 -Wall -Wextra -Wpedantic -Werror -O2 -Ic -o "$work/example" c/example.c "$archive"
 compare "$work/example"
 echo "test-c: $(wc -l <"$work/expected") lines as expected"

@@ -51,6 +51,31 @@ fn refusals_before_the_walk() {
     assert_eq!(formatter(&types, &[], 0).format_type(0, TypeIndex(0x8000_0000)), Err(Error::CrossModule(0x8000_0000)));
 }
 
+// Document 01's table, rows 5 to 11, by hand: each record leads to the refusal beside it.
+#[test]
+fn refusals_of_records_and_the_walk() {
+    let types = common::stream(&[
+        common::record(0x1505, &[]),
+        common::record(0x000a, &[]),
+        common::modifier(0x1001, 1),
+        common::method(3, 0x74, 0, 0x74, 0),
+        common::procedure(3, 0x80001234, 0),
+        common::pointer(0x1000),
+    ]);
+    let ids = common::stream(&[common::function_id(0, 0x1003, b"f"), common::member_id(0x74, 0x1004, b"f"), common::record(0x1601, &[])]);
+    let plain = formatter(&types, &ids, 0);
+    assert_eq!(plain.format_type(0, TypeIndex(0x1000)), Err(Error::Malformed(0x1000)));
+    assert_eq!(plain.format_type(0, TypeIndex(0x1001)), Ok("<unimplemented type kind 0xa>".into()));
+    assert_eq!(plain.format_type(0, TypeIndex(0x1002)), Err(Error::UnlistedKind(0xa)));
+    assert_eq!(plain.format_function("f", 0, TypeIndex(0x1003)), Err(Error::ArgumentTypeNotArgumentList(0x74)));
+    assert_eq!(plain.format_function("f", 0, TypeIndex(0x1004)), Err(Error::CrossModule(0x80001234)));
+    assert_eq!(plain.format_function("f", 0, TypeIndex(0x1006)), Err(Error::Missing(0x1006)));
+    assert_eq!(plain.get_type_size(0, TypeIndex(0x1000)), Ok(0), "what cannot be read has the size 0");
+    assert_eq!(plain.format_id(0, IdIndex(0x1000)), Err(Error::FunctionIdIsNotProcedureType(0x1003)));
+    assert_eq!(plain.format_id(0, IdIndex(0x1001)), Err(Error::MemberFunctionIdIsNotMemberFunctionType(0x1004)));
+    assert_eq!(plain.format_id(0, IdIndex(0x1002)), Err(Error::Malformed(0x1002)));
+}
+
 #[test]
 fn emit_writes_the_same() {
     let types = small_stream();

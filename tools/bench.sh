@@ -1,0 +1,15 @@
+#!/bin/sh
+# Prints the time and the stack of the calls as Markdown tables, with the machine that they were taken on: rust/benches/calls.rs. About half a minute.
+#
+#     rt staticlib yokberd && tools/bench.sh
+#
+# docs/BENCHMARKS.md has the figures of one run.
+set -eu
+root=$(cd "$(dirname "$0")/.." && pwd)
+[ -f "$root/target/staticlib/libyokberd.a" ] || { echo "bench: the library is not there: run rt staticlib yokberd" >&2; exit 1; }
+cd "$root/rust"
+cargo bench --offline --quiet --bench calls --no-run
+echo "$(sed -n 's/^model name[^:]*: //p' /proc/cpuinfo | head -n 1), $(nproc) processors, $(uname -sm), $(rustc --version | cut -d' ' -f1,2)"
+cargo bench --offline --quiet --bench calls
+echo
+echo "bench: done"
