@@ -51,6 +51,19 @@ fn refusals_before_the_walk() {
     assert_eq!(formatter(&types, &[], 0).format_type(0, TypeIndex(0x8000_0000)), Err(Error::CrossModule(0x8000_0000)));
 }
 
+// "A stream has at most 16,777,216 bytes, or 3"; bytes behind the records are ignored.
+#[test]
+fn longest_stream() {
+    let mut types = small_stream();
+    types.resize(16_777_216, 0);
+    assert_eq!(formatter(&types, &types, 0).format_id(0, IdIndex(0x2000)), Ok("<missing type 0x2000>".into()));
+    assert_eq!(formatter(&types, &[], 0).format_type(0, TypeIndex(0x1007)), Ok("struct A[5][3]".into()));
+    let short = types.clone();
+    types.push(0);
+    assert_eq!(formatter(&types, &[], 0).format_type(0, TypeIndex(0x1007)), Err(Error::Header(StreamKind::Types)));
+    assert_eq!(formatter(&short, &types, 0).format_id(0, IdIndex(0x2000)), Err(Error::Header(StreamKind::Ids)));
+}
+
 // Document 01's table, rows 5 to 11, by hand: each record leads to the refusal beside it.
 #[test]
 fn refusals_of_records_and_the_walk() {
