@@ -7,7 +7,7 @@ mod common;
 use common::{all_calls, case_count, hostile_streams, real_streams, settings, Call, Rng, Streams};
 use std::path::Path;
 use std::{env, fs};
-use yokberd::{Error, Sheet, TypeFormatter};
+use yokberd::{Error, IdIndex, Sheet, TypeFormatter, TypeIndex};
 
 // The text buffer of a sheet's calls.
 const SHEET_TEXT: usize = 4096;
@@ -69,6 +69,22 @@ fn every_room(rng: &mut Rng, formatter: &TypeFormatter, call: Call) -> Result<Ve
     whole
 }
 
+// The forms that allocate have the same answer, as UTF-8 as far as it goes, and write nothing where they are refused.
+fn emitted(formatter: &TypeFormatter, call: Call, whole: &Result<Vec<u8>, Error>) {
+    let (formatter, mut text) = (formatter.with_text_limit(SHEET_TEXT), String::new());
+    let done = match call {
+        Call::Type(index) => formatter.emit_type(&mut text, 0, TypeIndex(index)),
+        Call::Id(index) => formatter.emit_id(&mut text, 0, IdIndex(index)),
+        Call::Function(name, index) => match std::str::from_utf8(name) {
+            Ok(name) => formatter.emit_function(&mut text, name, 0, TypeIndex(index)),
+            Err(_) => return,
+        },
+        Call::Size(_) => return,
+    };
+    let expected = whole.as_ref().map_or(String::new(), |text| String::from_utf8_lossy(text).into_owned());
+    assert_eq!((done.err(), text), (whole.as_ref().err().copied(), expected), "{call:?}");
+}
+
 fn line(number: usize, answer: &Result<Vec<u8>, Error>) -> Vec<u8> {
     match answer {
         Ok(text) => [format!("{number} 0 0x0 ").as_bytes(), text, b"\n"].concat(),
@@ -111,6 +127,7 @@ fn held(rng: &mut Rng, streams: &Streams) -> Vec<Result<Vec<u8>, Error>> {
     for (at, call) in all_calls(rng, streams).into_iter().enumerate() {
         call.add_to(&mut sheet);
         let answer = every_room(rng, &formatter, call);
+        emitted(&formatter, call, &answer);
         lines.extend(line(at + 1, &answer));
         answers.push(answer);
     }
