@@ -10,7 +10,8 @@
  *   What it only reads is changed by no one during the call. Calls from any number of threads may share what is only read.
  * - 512 KiB of stack. A thread of glibc has 8 MiB where nothing else is said.
  *
- * A call keeps nothing, allocates nothing and calls nothing but memcpy and memset.
+ * A call keeps nothing, allocates nothing and calls nothing but memcpy and memset. It takes time by the length of its text and of its streams together, and
+ * a hostile stream can ask for a text that fills any buffer: where streams come from elsewhere, lend a small one.
  */
 #ifndef YOKBERD_H
 #define YOKBERD_H

@@ -53,6 +53,9 @@ impl<'a> TypeFormatter<'a> {
     }
 
     /// The same formatter with another limit for the texts that it allocates; a longer text is refused with [`Error::NoRoom`].
+    ///
+    /// A call takes time by the length of its text and of its streams together, and a hostile stream can ask for a very long text. So a service that is sent
+    /// streams from elsewhere sets a small limit.
     pub const fn with_text_limit(self, text_limit: usize) -> Self {
         TypeFormatter { text_limit, ..self }
     }
