@@ -137,6 +137,16 @@ fn long_texts() {
     assert_eq!(short.with_text_limit(list.len() - 1).format_type_bytes(0, TypeIndex(0x1001)), Err(Error::NoRoom));
 }
 
+// Lists of lists whose text would have 2^60 entries: refused at the limit.
+#[test]
+fn endless_texts() {
+    let lists: Vec<_> = (0..60).map(|at| common::arguments(&[if at == 0 { 0x74 } else { 0x1000 + at - 1 }; 2])).collect();
+    let types = common::stream(&lists);
+    let plain = formatter(&types, &[], 0);
+    assert_eq!(plain.format_type(0, TypeIndex(0x1001)), Ok("int,int,int,int".into()));
+    assert_eq!(plain.format_type(0, TypeIndex(0x103b)), Err(Error::NoRoom));
+}
+
 // A line as `vectors` prints it behind the index: refusal, detail and text.
 fn shown(answer: Result<Vec<u8>, Error>) -> String {
     match answer {
