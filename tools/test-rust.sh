@@ -1,6 +1,7 @@
 #!/bin/sh
 # Tests the Rust crate at scale, beside the gate: cargo's tests and examples; then random and damaged streams, more of them, their sheets compared with
-# tools/reading.py, a reading of document 01 in Python; then all tests once under valgrind, where it is installed.
+# tools/reading.py, a reading of document 01 in Python; more random streams compared with the original; then the tests that call the library once under
+# valgrind, where it is installed.
 #
 #     rt staticlib yokberd && tools/test-rust.sh [CASES]
 #
@@ -26,8 +27,13 @@ YOKBERD_CASES="$cases" cargo test --offline --release --quiet --test threads
 find "$work/sheets" -mindepth 1 -maxdepth 1 -type d -print0 | xargs -0 -n 500 python3 "$root/tools/reading.py" sheets
 echo "test-rust: $(ls "$work/sheets" | wc -l) sheets as tools/reading.py has them"
 
+YOKBERD_CASES="$cases" cargo test --offline --release --quiet --test original -- --nocapture >"$work/said" || { cat "$work/said"; exit 1; }
+grep 'Agreed' "$work/said"
+echo "test-rust: texts, sizes and errors as the original has them"
+
 if command -v valgrind >/dev/null; then
-    YOKBERD_CASES=30 CARGO_TARGET_X86_64_UNKNOWN_LINUX_GNU_RUNNER="valgrind -q --error-exitcode=1" cargo test --offline --quiet --tests
+    YOKBERD_CASES=30 CARGO_TARGET_X86_64_UNKNOWN_LINUX_GNU_RUNNER="valgrind -q --error-exitcode=1" cargo test --offline --quiet \
+        --test expected --test hostile --test threads
     echo "test-rust: the tests under valgrind, with no error"
 fi
 echo "test-rust: passed"

@@ -1,0 +1,621 @@
+//! What type_formatter.rs takes from the crate `pdb`, written anew from cvinfo.h for well-formed streams.
+//!
+//! Modules and their imports are never asked for: there is no string table, so an index of another module is an error before that.
+use std::borrow::Cow;
+use std::fmt;
+use std::marker::PhantomData;
+
+#[derive(Debug, Clone, Copy, PartialEq, Eq)]
+pub enum Error {
+    UnimplementedTypeKind(u16),
+    TypeNotFound(u32),
+    UnexpectedEof,
+}
+
+type Result<T> = std::result::Result<T, Error>;
+
+pub trait FallibleIterator {
+    type Item;
+    type Error;
+    fn next(&mut self) -> std::result::Result<Option<Self::Item>, Self::Error>;
+}
+
+// Indexes
+
+pub trait ItemIndex: Copy + PartialOrd + From<u32> + Into<u32> {
+    fn is_cross_module(self) -> bool {
+        let index: u32 = self.into();
+        index & 0x8000_0000 != 0
+    }
+}
+
+macro_rules! index {
+    ($name:ident) => {
+        #[derive(Clone, Copy, Debug, PartialEq, Eq, PartialOrd, Ord, Hash)]
+        pub struct $name(pub u32);
+
+        impl From<u32> for $name {
+            fn from(index: u32) -> Self {
+                $name(index)
+            }
+        }
+
+        impl From<$name> for u32 {
+            fn from(index: $name) -> Self {
+                index.0
+            }
+        }
+
+        impl ItemIndex for $name {}
+    };
+}
+
+index!(TypeIndex);
+index!(IdIndex);
+
+// Streams
+
+const FIRST: u32 = 0x1000;
+
+/// The records of a stream, each its kind and fields.
+pub struct Stream<'s, I> {
+    records: Vec<Vec<u8>>,
+    of: PhantomData<(&'s (), I)>,
+}
+
+pub type TypeInformation<'s> = Stream<'s, TypeIndex>;
+pub type IdInformation<'s> = Stream<'s, IdIndex>;
+
+impl<I: ItemIndex> Stream<'_, I> {
+    /// The records of a stream that is well-formed, with the first index 0x1000.
+    pub fn new(stream: &[u8]) -> Self {
+        let word = |at: usize| u32::from_le_bytes(stream[at..at + 4].try_into().unwrap());
+        assert_eq!(word(8), FIRST);
+        let (mut at, end) = (56, 56 + word(16) as usize);
+        let mut records = Vec::new();
+        while at < end {
+            let len = usize::from(u16::from_le_bytes([stream[at], stream[at + 1]]));
+            records.push(stream[at + 2..at + 2 + len].to_vec());
+            at += 2 + len;
+        }
+        assert_eq!(records.len() as u32, word(12) - FIRST);
+        Stream { records, of: PhantomData }
+    }
+
+    pub fn iter(&self) -> ItemIter<'_, I> {
+        ItemIter { records: &self.records, next: FIRST, of: PhantomData }
+    }
+
+    pub fn finder(&self) -> ItemFinder<'_, I> {
+        ItemFinder { records: &self.records, of: PhantomData }
+    }
+}
+
+pub struct ItemIter<'t, I> {
+    records: &'t [Vec<u8>],
+    next: u32,
+    of: PhantomData<I>,
+}
+
+impl<'t, I: ItemIndex> FallibleIterator for ItemIter<'t, I> {
+    type Item = Item<'t, I>;
+    type Error = Error;
+
+    fn next(&mut self) -> Result<Option<Item<'t, I>>> {
+        let record = self.records.get((self.next - FIRST) as usize);
+        self.next += 1;
+        Ok(record.map(|data| Item { index: I::from(self.next - 1), data }))
+    }
+}
+
+pub struct ItemFinder<'t, I> {
+    records: &'t [Vec<u8>],
+    of: PhantomData<I>,
+}
+
+impl<'t, I: ItemIndex> ItemFinder<'t, I> {
+    pub fn max_index(&self) -> I {
+        I::from(FIRST + self.records.len() as u32 - 1)
+    }
+
+    /// An index below the first has no record. A type's `parse` takes it for a primitive.
+    pub fn find(&self, index: I) -> Result<Item<'t, I>> {
+        let number: u32 = index.into();
+        match number.checked_sub(FIRST) {
+            None => Ok(Item { index, data: &[] }),
+            Some(at) => self.records.get(at as usize).map(|data| Item { index, data }).ok_or(Error::TypeNotFound(number)),
+        }
+    }
+
+    pub fn update(&mut self, _: &ItemIter<'t, I>) {}
+}
+
+pub struct Item<'t, I> {
+    index: I,
+    data: &'t [u8],
+}
+
+impl<I: ItemIndex> Item<'_, I> {
+    pub fn index(&self) -> I {
+        self.index
+    }
+}
+
+// Fields
+
+struct Fields<'t>(&'t [u8]);
+
+impl<'t> Fields<'t> {
+    fn take(&mut self, len: usize) -> Result<&'t [u8]> {
+        if self.0.len() < len {
+            return Err(Error::UnexpectedEof);
+        }
+        let (taken, rest) = self.0.split_at(len);
+        self.0 = rest;
+        Ok(taken)
+    }
+
+    fn u16(&mut self) -> Result<u16> {
+        Ok(u16::from_le_bytes(self.take(2)?.try_into().unwrap()))
+    }
+
+    fn u32(&mut self) -> Result<u32> {
+        Ok(u32::from_le_bytes(self.take(4)?.try_into().unwrap()))
+    }
+
+    fn type_index(&mut self) -> Result<TypeIndex> {
+        Ok(TypeIndex(self.u32()?))
+    }
+
+    /// 0 and 0xffff stand for none.
+    fn optional<I: From<u32>>(&mut self) -> Result<Option<I>> {
+        let index = self.u32()?;
+        Ok(if index == 0 || index == 0xffff { None } else { Some(I::from(index)) })
+    }
+
+    fn name(&mut self) -> Result<RawString<'t>> {
+        let len = self.0.iter().position(|byte| *byte == 0).ok_or(Error::UnexpectedEof)?;
+        let name = RawString(self.take(len)?);
+        self.take(1)?;
+        Ok(name)
+    }
+
+    fn unique_name(&mut self, properties: TypeProperties) -> Result<Option<RawString<'t>>> {
+        if properties.0 & 0x200 == 0 {
+            return Ok(None);
+        }
+        self.name().map(Some)
+    }
+
+    fn variant(&mut self) -> Result<Variant> {
+        Ok(match self.u16()? {
+            small if small < 0x8000 => Variant::U16(small),
+            0x8000 => Variant::I8(self.take(1)?[0] as i8),
+            0x8001 => Variant::I16(self.u16()? as i16),
+            0x8002 => Variant::U16(self.u16()?),
+            0x8003 => Variant::I32(self.u32()? as i32),
+            0x8004 => Variant::U32(self.u32()?),
+            0x8009 => Variant::I64(i64::from_le_bytes(self.take(8)?.try_into().unwrap())),
+            0x800a => Variant::U64(u64::from_le_bytes(self.take(8)?.try_into().unwrap())),
+            _ => return Err(Error::UnexpectedEof),
+        })
+    }
+
+    fn unsigned(&mut self) -> Result<u64> {
+        match self.variant()? {
+            Variant::U16(n) => Ok(n.into()),
+            Variant::U32(n) => Ok(n.into()),
+            Variant::U64(n) => Ok(n),
+            _ => Err(Error::UnexpectedEof),
+        }
+    }
+
+    fn list(&mut self) -> Result<Vec<TypeIndex>> {
+        let count = self.u32()?;
+        (0..count).map(|_| self.type_index()).collect()
+    }
+}
+
+#[derive(Clone, Copy, PartialEq, Eq, Hash, Debug)]
+pub struct RawString<'t>(&'t [u8]);
+
+impl<'t> RawString<'t> {
+    pub fn to_string(self) -> Cow<'t, str> {
+        String::from_utf8_lossy(self.0)
+    }
+}
+
+impl fmt::Display for RawString<'_> {
+    fn fmt(&self, f: &mut fmt::Formatter<'_>) -> fmt::Result {
+        f.write_str(&String::from_utf8_lossy(self.0))
+    }
+}
+
+// Records
+
+#[derive(Debug, Clone, Copy)]
+pub enum Variant {
+    U8(u8),
+    U16(u16),
+    U32(u32),
+    U64(u64),
+    I8(i8),
+    I16(i16),
+    I32(i32),
+    I64(i64),
+}
+
+#[derive(Debug, Clone, Copy)]
+pub struct TypeProperties(u16);
+
+impl TypeProperties {
+    pub fn forward_reference(self) -> bool {
+        self.0 & 0x80 != 0
+    }
+}
+
+#[derive(Debug, Clone, Copy)]
+pub struct FunctionAttributes(u16);
+
+impl FunctionAttributes {
+    pub fn is_constructor(self) -> bool {
+        self.0 & 0x200 != 0
+    }
+}
+
+#[derive(Debug, Clone, Copy, PartialEq, Eq)]
+pub enum PointerMode {
+    Pointer,
+    LValueReference,
+    Member,
+    MemberFunction,
+    RValueReference,
+}
+
+#[derive(Debug, Clone, Copy)]
+pub struct PointerAttributes(u32);
+
+impl PointerAttributes {
+    pub fn pointer_mode(self) -> PointerMode {
+        match self.0 >> 5 & 7 {
+            0 => PointerMode::Pointer,
+            1 => PointerMode::LValueReference,
+            2 => PointerMode::Member,
+            3 => PointerMode::MemberFunction,
+            _ => PointerMode::RValueReference,
+        }
+    }
+
+    pub fn is_const(self) -> bool {
+        self.0 >> 10 & 1 != 0
+    }
+
+    pub fn size(self) -> u8 {
+        (self.0 >> 13 & 0x3f) as u8
+    }
+}
+
+#[derive(Debug, Clone, Copy)]
+pub enum ClassKind {
+    Class,
+    Struct,
+    Interface,
+}
+
+#[derive(Debug)]
+pub struct ClassType<'t> {
+    pub kind: ClassKind,
+    pub properties: TypeProperties,
+    pub size: u64,
+    pub name: RawString<'t>,
+    pub unique_name: Option<RawString<'t>>,
+}
+
+#[derive(Debug)]
+pub struct UnionType<'t> {
+    pub properties: TypeProperties,
+    pub size: u64,
+    pub name: RawString<'t>,
+    pub unique_name: Option<RawString<'t>>,
+}
+
+#[derive(Debug)]
+pub struct EnumerationType<'t> {
+    pub underlying_type: TypeIndex,
+    pub name: RawString<'t>,
+}
+
+#[derive(Debug)]
+pub struct EnumerateType<'t> {
+    pub value: Variant,
+    pub name: RawString<'t>,
+}
+
+#[derive(Debug)]
+pub struct PointerType {
+    pub underlying_type: TypeIndex,
+    pub attributes: PointerAttributes,
+}
+
+#[derive(Debug)]
+pub struct ModifierType {
+    pub underlying_type: TypeIndex,
+    pub constant: bool,
+}
+
+#[derive(Debug)]
+pub struct ProcedureType {
+    pub return_type: Option<TypeIndex>,
+    pub attributes: FunctionAttributes,
+    pub argument_list: TypeIndex,
+}
+
+#[derive(Debug)]
+pub struct MemberFunctionType {
+    pub return_type: TypeIndex,
+    pub class_type: TypeIndex,
+    pub this_pointer_type: Option<TypeIndex>,
+    pub attributes: FunctionAttributes,
+    pub argument_list: TypeIndex,
+}
+
+#[derive(Debug)]
+pub struct ArgumentList {
+    pub arguments: Vec<TypeIndex>,
+}
+
+#[derive(Debug)]
+pub struct ArrayType {
+    pub element_type: TypeIndex,
+    pub dimensions: Vec<u32>,
+}
+
+#[derive(Debug)]
+pub struct PrimitiveType {
+    pub kind: PrimitiveKind,
+    pub indirection: Option<u8>,
+}
+
+#[derive(Debug)]
+pub enum TypeData<'t> {
+    Primitive(PrimitiveType),
+    Class(ClassType<'t>),
+    MemberFunction(MemberFunctionType),
+    Procedure(ProcedureType),
+    Pointer(PointerType),
+    Array(ArrayType),
+    Union(UnionType<'t>),
+    Enumeration(EnumerationType<'t>),
+    Enumerate(EnumerateType<'t>),
+    Modifier(ModifierType),
+    ArgumentList(ArgumentList),
+    Unhandled(u16),
+}
+
+#[derive(Debug)]
+pub struct FunctionId<'t> {
+    pub scope: Option<IdIndex>,
+    pub function_type: TypeIndex,
+    pub name: RawString<'t>,
+}
+
+#[derive(Debug)]
+pub struct MemberFunctionId<'t> {
+    pub parent: TypeIndex,
+    pub function_type: TypeIndex,
+    pub name: RawString<'t>,
+}
+
+#[derive(Debug)]
+pub struct StringListId {
+    pub substrings: Vec<TypeIndex>,
+}
+
+#[derive(Debug)]
+pub struct StringId<'t> {
+    pub name: RawString<'t>,
+}
+
+#[derive(Debug)]
+pub enum IdData<'t> {
+    Function(FunctionId<'t>),
+    MemberFunction(MemberFunctionId<'t>),
+    StringList(StringListId),
+    String(StringId<'t>),
+    Unhandled(u16),
+}
+
+impl<'t> Item<'t, TypeIndex> {
+    pub fn parse(&self) -> Result<TypeData<'t>> {
+        if self.index.0 < FIRST {
+            return primitive(self.index.0).map(TypeData::Primitive);
+        }
+        let mut fields = Fields(self.data);
+        let kind = fields.u16()?;
+        Ok(match kind {
+            0x1001 => TypeData::Modifier(ModifierType { underlying_type: fields.type_index()?, constant: fields.u16()? & 1 != 0 }),
+            0x1002 => TypeData::Pointer(PointerType { underlying_type: fields.type_index()?, attributes: PointerAttributes(fields.u32()?) }),
+            0x1008 => {
+                let return_type = fields.optional()?;
+                let attributes = FunctionAttributes(fields.u16()?);
+                fields.u16()?;
+                TypeData::Procedure(ProcedureType { return_type, attributes, argument_list: fields.type_index()? })
+            }
+            0x1009 => {
+                let (return_type, class_type) = (fields.type_index()?, fields.type_index()?);
+                let this_pointer_type = fields.optional()?;
+                let attributes = FunctionAttributes(fields.u16()?);
+                fields.u16()?;
+                let argument_list = fields.type_index()?;
+                TypeData::MemberFunction(MemberFunctionType { return_type, class_type, this_pointer_type, attributes, argument_list })
+            }
+            0x1201 => TypeData::ArgumentList(ArgumentList { arguments: fields.list()? }),
+            0x1502 => {
+                fields.u16()?;
+                TypeData::Enumerate(EnumerateType { value: fields.variant()?, name: fields.name()? })
+            }
+            0x1503 => {
+                let element_type = fields.type_index()?;
+                fields.u32()?;
+                let size = u32::try_from(fields.unsigned()?).map_err(|_| Error::UnexpectedEof)?;
+                TypeData::Array(ArrayType { element_type, dimensions: vec![size] })
+            }
+            0x1504 | 0x1505 | 0x1519 => {
+                fields.u16()?;
+                let properties = TypeProperties(fields.u16()?);
+                fields.take(12)?;
+                let (size, name) = (fields.unsigned()?, fields.name()?);
+                let kind = match kind {
+                    0x1504 => ClassKind::Class,
+                    0x1505 => ClassKind::Struct,
+                    _ => ClassKind::Interface,
+                };
+                TypeData::Class(ClassType { kind, properties, size, name, unique_name: fields.unique_name(properties)? })
+            }
+            0x1506 => {
+                fields.u16()?;
+                let properties = TypeProperties(fields.u16()?);
+                fields.take(4)?;
+                let (size, name) = (fields.unsigned()?, fields.name()?);
+                TypeData::Union(UnionType { properties, size, name, unique_name: fields.unique_name(properties)? })
+            }
+            0x1507 => {
+                fields.take(4)?;
+                let underlying_type = fields.type_index()?;
+                fields.u32()?;
+                TypeData::Enumeration(EnumerationType { underlying_type, name: fields.name()? })
+            }
+            0x1203 | 0x1205 | 0x1206 => TypeData::Unhandled(kind),
+            _ => return Err(Error::UnimplementedTypeKind(kind)),
+        })
+    }
+}
+
+impl<'t> Item<'t, IdIndex> {
+    pub fn parse(&self) -> Result<IdData<'t>> {
+        let mut fields = Fields(self.data);
+        let kind = fields.u16()?;
+        Ok(match kind {
+            0x1601 => {
+                let (scope, function_type) = (fields.optional()?, fields.type_index()?);
+                IdData::Function(FunctionId { scope, function_type, name: fields.name()? })
+            }
+            0x1602 => {
+                let (parent, function_type) = (fields.type_index()?, fields.type_index()?);
+                IdData::MemberFunction(MemberFunctionId { parent, function_type, name: fields.name()? })
+            }
+            0x1604 => IdData::StringList(StringListId { substrings: fields.list()? }),
+            0x1605 => {
+                fields.u32()?;
+                IdData::String(StringId { name: fields.name()? })
+            }
+            0x1603 | 0x1606 | 0x1607 => IdData::Unhandled(kind),
+            _ => return Err(Error::UnimplementedTypeKind(kind)),
+        })
+    }
+}
+
+macro_rules! primitives {
+    ($($code:literal $kind:ident),*) => {
+        #[derive(Debug, Clone, Copy)]
+        pub enum PrimitiveKind {
+            $($kind),*
+        }
+
+        fn primitive(index: u32) -> Result<PrimitiveType> {
+            let indirection = match index >> 8 & 0xf {
+                0 => None,
+                indirection @ 1..=7 => Some(indirection as u8),
+                _ => return Err(Error::TypeNotFound(index)),
+            };
+            let kind = match index & 0xff {
+                $($code => PrimitiveKind::$kind,)*
+                _ => return Err(Error::TypeNotFound(index)),
+            };
+            Ok(PrimitiveType { kind, indirection })
+        }
+    };
+}
+
+primitives!(
+    0x00 NoType, 0x03 Void, 0x08 HRESULT, 0x10 Char, 0x11 Short, 0x12 Long, 0x13 Quad, 0x14 Octa, 0x20 UChar, 0x21 UShort, 0x22 ULong, 0x23 UQuad,
+    0x24 UOcta, 0x30 Bool8, 0x31 Bool16, 0x32 Bool32, 0x33 Bool64, 0x40 F32, 0x41 F64, 0x42 F80, 0x43 F128, 0x44 F48, 0x45 F32PP, 0x46 F16,
+    0x50 Complex32, 0x51 Complex64, 0x52 Complex80, 0x53 Complex128, 0x68 I8, 0x69 U8, 0x70 RChar, 0x71 WChar, 0x72 I16, 0x73 U16, 0x74 I32, 0x75 U32,
+    0x76 I64, 0x77 U64, 0x78 I128, 0x79 U128, 0x7a RChar16, 0x7b RChar32, 0x7c Char8
+);
+
+// The parts of a PDB beside its streams
+
+#[derive(Debug, Clone, Copy)]
+pub enum MachineType {
+    X86,
+    Amd64,
+    Arm64,
+    Ia64,
+    RiscV64,
+    RiscV128,
+}
+
+pub struct DebugInformation<'s> {
+    pub machine: MachineType,
+    pub source: PhantomData<&'s ()>,
+}
+
+impl DebugInformation<'_> {
+    pub fn machine_type(&self) -> Result<MachineType> {
+        Ok(self.machine)
+    }
+}
+
+pub struct StringTable<'s>(PhantomData<&'s ()>);
+
+pub struct StringRef;
+
+impl StringRef {
+    pub fn to_string_lossy<'s>(&self, _: &StringTable<'s>) -> Result<Cow<'s, str>> {
+        unreachable!("there is no string table")
+    }
+}
+
+pub struct ModuleRef(pub StringRef);
+
+#[derive(Clone, Copy)]
+pub struct Local<I>(pub I);
+
+pub struct CrossModuleRef<I>(pub ModuleRef, pub Local<I>);
+
+pub struct CrossModuleImports<'m>(PhantomData<&'m ()>);
+
+impl CrossModuleImports<'_> {
+    pub fn resolve_import<I: ItemIndex>(&self, _: I) -> Result<CrossModuleRef<I>> {
+        unreachable!("there is no string table")
+    }
+}
+
+pub struct CrossModuleExports;
+
+impl CrossModuleExports {
+    pub fn resolve_import<I: ItemIndex>(&self, _: Local<I>) -> Result<Option<I>> {
+        unreachable!("there is no string table")
+    }
+}
+
+pub struct Module<'m>(PhantomData<&'m ()>);
+
+impl Module<'_> {
+    pub fn module_name(&self) -> Cow<'_, str> {
+        unreachable!("there are no modules")
+    }
+}
+
+pub struct ModuleInfo<'s>(PhantomData<&'s ()>);
+
+impl ModuleInfo<'_> {
+    pub fn imports(&self) -> Result<CrossModuleImports<'_>> {
+        unreachable!("there are no modules")
+    }
+
+    pub fn exports(&self) -> Result<CrossModuleExports> {
+        unreachable!("there are no modules")
+    }
+}
