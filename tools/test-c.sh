@@ -39,7 +39,12 @@ sed -n '/pub fn number/,/pub fn detail/s/^ *Refusal::\([A-Za-z]*\).* => \([0-9]*
 sed -n 's/^ *YOKBERD_\([A-Z_]*\) = \([1-9][0-9]*\).*/\1 \2/p' c/yokberd.h >"$work/named"
 [ "$(wc -l <"$work/numbers")" -eq 16 ]
 cmp "$work/numbers" "$work/named"
-echo "test-c: the header names the library's 16 refusals"
+sed -n 's/^ *pub const \([A-Z_]*\): TypeFormatterFlags = TypeFormatterFlags(0b\([01_]*\));$/\1 \2/p' crates/context/src/flags.rt |
+    awk '{gsub("_", "", $2); n = 0; for (i = 1; i <= length($2); i++) n = 2 * n + substr($2, i, 1); printf "%s 0x%02x\n", $1, n}' >"$work/flags"
+sed -n 's/^#define YOKBERD_\([A-Z_]*\) \(0x[0-9a-f]*\)u.*/\1 \2/p' c/yokberd.h >"$work/named"
+[ "$(wc -l <"$work/flags")" -eq 6 ]
+cmp "$work/flags" "$work/named"
+echo "test-c: the header names the library's 16 refusals and 6 flags"
 
 "$cc" -std=c99 -Wall -Wextra -Wpedantic -Werror -O2 -Ic -o "$work/example" c/example.c "$archive"
 compare "$work/example"

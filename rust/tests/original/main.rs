@@ -120,6 +120,17 @@ fn calls(streams: &Streams) -> Vec<Call> {
     types.flat_map(of_type).chain(ids.map(Call::Id)).chain([Call::Function(b"step", 0), Call::Function(b"", 0)]).collect()
 }
 
+#[test]
+fn flags_are_the_originals() {
+    macro_rules! same {
+        ($($flag:ident)*) => {
+            $(assert_eq!(yokberd::TypeFormatterFlags::$flag.bits(), TypeFormatterFlags::$flag.bits());)*
+        };
+    }
+    same!(NO_FUNCTION_RETURN NO_MEMBER_FUNCTION_STATIC SPACE_AFTER_COMMA SPACE_BEFORE_POINTER NAME_ONLY NO_ARGUMENTS);
+    assert_eq!(yokberd::TypeFormatterFlags::default().bits(), TypeFormatterFlags::default().bits());
+}
+
 // Real streams
 
 const UNHANDLED: [u16; 6] = [0x1203, 0x1205, 0x1206, 0x1603, 0x1606, 0x1607];
