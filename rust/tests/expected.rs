@@ -224,6 +224,31 @@ fn given_sheets() {
     }
 }
 
+// The lines of document 01's sheet, in buffers of every length and with every number of lines to skip: as many whole lines as fit, the rest untouched.
+#[test]
+fn a_sheet_in_every_room() {
+    let types = small_stream();
+    let plain = formatter(&types, &[], 0);
+    let sheet = Sheet::from_bytes(b"\x10\x07\x10\0\0\x11\x07\x10\0\0\x10\x08\x10\0\0".to_vec());
+    let lines = ["1 0 0x0 struct A[5][3]\n", "2 0 0x0 60\n", "3 12 0x1008\n"];
+    for (skip, room) in (0..5).flat_map(|skip| (0..60).map(move |room| (skip, room))) {
+        let (mut expected, mut fitting) = (String::new(), 0);
+        let rest = lines.get(skip..).unwrap_or_default();
+        for line in rest {
+            if expected.len() + line.len() > room {
+                break;
+            }
+            expected += line;
+            fitting += 1;
+        }
+        let mut out = vec![0xaa; room];
+        let printed = plain.print_sheet(&sheet, &mut out, skip);
+        assert_eq!((printed.bytes, printed.lines, printed.more), (expected.len(), fitting, fitting < rest.len()), "skip {skip} room {room}");
+        assert_eq!(&out[..printed.bytes], expected.as_bytes());
+        assert!(out[printed.bytes..].iter().all(|byte| *byte == 0xaa));
+    }
+}
+
 #[test]
 fn every_refusal_in_words() {
     for number in 1..=16 {

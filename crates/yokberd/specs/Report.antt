@@ -20,19 +20,21 @@ pub record Report : Type 0 where
 abbrev pub report : ℕ → ℕ → ℕ → Report
 report n d v = record { number = n; detail = d; value = v }
 
+-- A refusal tells its number and its detail.
 abbrev pub refusal : Refusal → Report
 refusal f = report (numberOf f) (detailOf f) 0
 
--- The report of an outcome of the rules.
+-- What the text calls tell, by the outcome of the rules: "a text fills the start of the lent buffer", so its length says where it ends.
 unfoldable pub ofText : Outcome → Report
 ofText (text bs n) = report 0 0 (length bs)
 ofText (stopped f) = refusal f
 
+-- What the size call tells, by the size that the rules give.
 unfoldable pub ofSize : Size → Report
 ofSize (bytes n) = report 0 0 n
 ofSize (unsized f) = refusal f
 
--- The report of an answer.
+-- The same by the answers of the code.
 unfoldable pub ofAnswer : Answer → Report
 ofAnswer (answer.Text n) = report 0 0 n
 ofAnswer (answer.Refused f) = refusal f
