@@ -15,7 +15,7 @@ const RUNS: usize = 5;
 const RUN: Duration = Duration::from_millis(40);
 // The longest stream that is not refused.
 const STREAM_LIMIT: usize = 16_777_216;
-// In a fresh process, which row of `deep_rows` to ask for.
+// In a fresh process, which row of `deep_rows` to ask for: its number, with `:sheet` behind it for a sheet, or `none`.
 const STACK_OF: &str = "YOKBERD_STACK_OF";
 
 fn formatter(streams: &Streams) -> TypeFormatter<'_> {
@@ -38,11 +38,10 @@ fn seconds(mut work: impl FnMut()) -> f64 {
 
 // Seconds for each of the calls, one by one, in a buffer of the caller's.
 fn single(streams: &Streams, calls: &[Call]) -> f64 {
-    let (formatter, mut out) = (formatter(streams), vec![0; 1 << 20]);
-    let out = &mut out[..4096];
+    let (formatter, mut out) = (formatter(streams), vec![0; 4096]);
     seconds(|| {
         for call in calls {
-            let _ = black_box(call.ask(&formatter, out));
+            let _ = black_box(call.ask(&formatter, &mut out));
         }
     }) / calls.len() as f64
 }
@@ -203,7 +202,7 @@ fn stack_pages() -> u64 {
     pages.trim().trim_end_matches(" kB").parse().unwrap()
 }
 
-// What a fresh process says of its stack after a row was asked for; -1 asks for nothing. The lines of a sheet are asked for by the row's text behind ':'.
+// What a fresh process says of its stack after a row was asked for.
 fn stack_after(row: &str) {
     let (at, in_sheet) = row.strip_suffix(":sheet").map_or((row, false), |at| (at, true));
     let rows = common::deep_rows();
