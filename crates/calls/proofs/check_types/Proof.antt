@@ -34,10 +34,4 @@ returns-3 c = rw (sym (c .before .is-pointer-size .ensures) ∙ c .if1 .left) re
 pub check-types-spec : {M : Type 1} → statement M
 check-types-spec =
     tie.close
-    (tie.spec
-    is-pointer-size-requires
-    enum-known-t
-    enum-known-t-2
-    returns
-    returns-2
-    returns-3)
+    (tie.spec is-pointer-size-requires enum-known-t enum-known-t-2 returns returns-2 returns-3)

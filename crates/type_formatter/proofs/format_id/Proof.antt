@@ -29,4 +29,5 @@ returns c = (c .before .before .id-over .ensures ∙ ap (laid _) (id-checked _ (
 
 pub format-id-spec : {M : Type 1} → statement M
 format-id-spec =
-    tie.close (tie.spec check-stream-requires check-stream-requires-2 id-over-requires same-length returns)
+    tie.close
+    (tie.spec check-stream-requires check-stream-requires-2 id-over-requires same-length returns)

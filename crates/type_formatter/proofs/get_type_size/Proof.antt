@@ -20,5 +20,4 @@ returns : tie.Need-returns
 returns c = c .size-over .ensures ∙ size-checked _ (c .before .check-stream .ensures) _ _
 
 pub get-type-size-spec : {M : Type 1} → statement M
-get-type-size-spec =
-    tie.close (tie.spec check-stream-requires size-over-requires returns)
+get-type-size-spec = tie.close (tie.spec check-stream-requires size-over-requires returns)

@@ -1,4 +1,4 @@
--- `emit_brackets_from` calls itself with the next level: the measure is the levels that are left.
+-- The proof of the cycle of calls: a file for each member below `Proof/`.
 -- Assumes nothing.
 mod Common
 mod EmitBracketsFrom

@@ -1,4 +1,4 @@
--- `numeral` calls itself with one digit fewer: the measure is the digits that are left.
+-- The proof of the cycle of calls: a file for each member below `Proof/`.
 -- Assumes nothing.
 mod Common
 mod Numeral

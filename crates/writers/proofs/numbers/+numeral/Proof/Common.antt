@@ -1,4 +1,4 @@
--- The measure, and what `numeral` is given and asks at a measure.
+-- The measures of the cycle's members, and what each is given and asks at a measure.
 use Prim.Native.Nat.{ℕ, _<_}
 use borrow.Fn.Kinds.{In}
 use borrow.Fn.PlainCycle.{Measures, is, falls, and}

@@ -3,10 +3,10 @@ use Prim.Native.Nat.{ℕ}
 use borrow.Author.Needs.{needs}
 use native.Mathlib.Omega.{arith}
 use native.Mathlib.Nat.{mod-lt}
-use Rattle.pen.proofs.byte.Reads as byte-reads
 use Rattle.pen.proofs.Laws.{_▹_, wrote-as, wrote-by, wrote-none, wrote-byte}
 use Rattle.writers.proofs.Laws.{numeral-none, numeral-one, numeral-more}
 use Rattle.writers.proofs.numbers.numeral.Reads as numeral
+use Rattle.pen.proofs.byte.Reads as byte-reads
 use Rattle.writers.proofs.numbers.digit.Reads as digit-reads
 use Rattle.writers.proofs.numbers.+numeral.Lts-numeral as lts
 use Rattle.writers.proofs.numbers.+numeral.Proof.Common.{numeral-at, numeral-below}
