@@ -17,7 +17,8 @@ crates/CRATE/proofs/**/Proof.antt (of a cycle of calls: Proof/*.antt too) from t
   prove.py cycles                    fails where a module name of a cycle is too long to be kept with the proved crate
 
 FN is a function's path below proofs/, as types/class, or + for the cycles of calls. Run it in the root of the repository.
-`--saved` (write, test) goes by the shapes that are saved beside the answers and asks nothing of rt.
+`--saved` (write, test) goes by the shapes that are saved beside the answers, for which rt is not needed; `-n` (write, extract,
+new) changes no file; `--gen DIR` is where what rt makes is put (target/prove/gen/CRATE). Options stand behind all names.
 
 An answers file starts with `function PATH` or `cycle PATH`. Then, each on a line (a line that starts with a space goes on
 with the answer above it; `#` starts a comment):

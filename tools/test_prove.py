@@ -5,8 +5,8 @@ import unittest
 
 from proofs.answers import Answer, Answers, Member, read_answers, show_answers
 from proofs.carry import carry
-from proofs.check import LONGEST, cycles_in, longest_module
-from proofs.layout import proofs_folder, read
+from proofs.check import LONGEST, longest_module
+from proofs.layout import cycles_in, proofs_folder, read
 from proofs.shapes import LtsReader, Shape, Step, load_shapes, show_shapes
 from proofs.terms import count_facts, expand, name_facts
 from proofs.write import write_files

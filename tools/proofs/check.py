@@ -16,6 +16,10 @@ BY_HAND = os.path.join(os.path.dirname(__file__), 'by-hand.txt')
 
 # ---------------------------------------------------------------- what the answers give
 
+class NoShape(Exception):
+    """rt makes nothing for a function that has answers."""
+
+
 @dataclass
 class Made:
     """The proof files that an answers file gives."""
@@ -51,15 +55,12 @@ def answers_files(crate, only=()):
 
 
 def make(crate, path, answers, generated):
-    """What answers give at the shapes that rt says now, or at the saved ones if `generated` is None. A text that says why,
-    if there is no shape."""
+    """What answers give at the shapes that rt says now, or at the saved ones if `generated` is None."""
     name, said, report = answers.name, [], []
     saved = load_shapes(shape_path(path))
     shapes = saved
     if generated is not None:
         shapes = shapes_now(crate, answers, generated_folder(generated, crate), report)
-        if isinstance(shapes, str):
-            return shapes
     if shapes != saved:
         same, moved = carry(answers, saved, shapes, report)
         said.append(f'{name[:40]}: the shape changed; {same} answers as they were, {moved} carried over')
@@ -73,12 +74,12 @@ def shapes_now(crate, answers, library, report):
     if not answers.is_cycle:
         lts = lts_path(library, answers.name)
         if not os.path.exists(lts):
-            return f'{answers.name}: rt makes no Lts for it now (gone, or in a cycle): left alone'
+            raise NoShape(f'{answers.name}: rt makes no Lts for it now (gone, or in a cycle): left alone')
         return {answers.name: shape_of(lts, crate, answers.name)}
     above = os.path.dirname(answers.name)
     now = [x for x in cycles_in(library) if os.path.dirname(x) == above]
     if not now:
-        return 'there is no cycle of calls now: left alone'
+        raise NoShape('there is no cycle of calls now: left alone')
     if answers.name not in now:
         answers.name = max(now, key=lambda x: len(set(x.split('+')) & set(answers.name.split('+'))))
         report.append(f'the cycle is now {answers.name}')
@@ -113,9 +114,10 @@ def crate_complaints(crate, generated):
     """What is wrong with the answers of a crate: a text for each, and the files that they write."""
     complaints, written = [], []
     for path, answers in answers_files(crate):
-        made = make(crate, path, answers, generated)
-        if isinstance(made, str):
-            complaints.append(made)
+        try:
+            made = make(crate, path, answers, generated)
+        except NoShape as reason:
+            complaints.append(str(reason))
             continue
         complaints += made.said
         written += [f'{made.folder}/{file}' for file in made.files]
@@ -137,13 +139,13 @@ def check_all(generated_of):
             continue
         complaints, written = crate_complaints(crate, generated_of(crate)) if crate in crates_with_answers() else ([], [])
         all_written.update(written)
-        complaints += [f'{file}: counts positions, and no answers write it (nor is it listed in by-hand.txt)'
+        complaints += [f'{file}: counts positions; no answers write it, and tools/proofs/by-hand.txt does not list it'
                        for file in counted_files(crate) if file not in written and file not in hand]
         if complaints:
             good = False
             print(f'{crate}:\n  ' + '\n  '.join(complaints))
         elif written:
-            print(f'{crate}: {len(written)} proof files are those of the answers')
+            print(f'{crate}: proof files as the answers write them: {len(written)}')
     for file in hand:
         if file in all_written or not os.path.exists(file):
             good = False

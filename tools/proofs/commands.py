@@ -7,7 +7,7 @@ import time
 
 from .answers import SEARCH, Answers, Member, show_answers
 from .carry import loop_lines
-from .check import answers_files, check_all, check_cycle_names, first_difference, make
+from .check import NoShape, answers_files, check_all, check_cycle_names, first_difference, make
 from .extract import REST, extract
 from .layout import (answers_path, cycles_in, function_name, functions_in, generated_folder, is_cycle, lts_path, member_name,
                      members_of, proofs_folder, save, shape_path)
@@ -129,9 +129,10 @@ def made_files(args):
     if not args.saved:
         library_of(args)
     for path, answers in answers_files(args.crate, args.functions):
-        made = make(args.crate, path, answers, generated_by(args))
-        if isinstance(made, str):
-            print(made)
+        try:
+            made = make(args.crate, path, answers, generated_by(args))
+        except NoShape as reason:
+            print(reason)
             continue
         for line in made.said:
             print(line)
