@@ -54,35 +54,38 @@ import sys
 from proofs import commands
 
 
-def parser():
-    text = argparse.RawDescriptionHelpFormatter
-    out = argparse.ArgumentParser(description=__doc__, usage='prove.py COMMAND ..', formatter_class=text)
-    add = out.add_subparsers(required=True, metavar='COMMAND', help=argparse.SUPPRESS).add_parser
-    crate, some, many = argparse.ArgumentParser(add_help=False), {'nargs': '*', 'metavar': 'FN'}, {'nargs': '+', 'metavar': 'FN'}
-    crate.add_argument('crate', metavar='CRATE')
-    gen = argparse.ArgumentParser(add_help=False)
-    gen.add_argument('--gen', metavar='DIR', help='where what rt makes is put (target/prove/gen/CRATE)')
-    saved = argparse.ArgumentParser(add_help=False)
-    saved.add_argument('--saved', action='store_true', help='go by the saved shapes')
-    dry = argparse.ArgumentParser(add_help=False)
-    dry.add_argument('-n', dest='dry', action='store_true', help='change no file')
+NAMES = {'CRATE': {'dest': 'crate'},
+         '[CRATE]': {'dest': 'crate', 'nargs': '?'},
+         'FN': {'dest': 'function'},
+         'FN..': {'dest': 'functions', 'nargs': '+'},
+         '[FN..]': {'dest': 'functions', 'nargs': '*'},
+         '[NEED..]': {'dest': 'needs', 'nargs': '*'}}
 
-    add('shape', parents=[crate, gen]).set_defaults(run=commands.shape)
-    for name, parents, functions, run in (('write', [crate, gen, saved, dry], some, commands.write),
-                                          ('extract', [crate, gen, dry], some, commands.extract_answers),
-                                          ('new', [crate, gen, dry], many, commands.new)):
-        command = add(name, parents=parents)
-        command.add_argument('functions', **functions)
+OPTIONS = {'--gen': {'metavar': 'DIR', 'help': 'where what rt makes is put (target/prove/gen/CRATE)'},
+           '--saved': {'action': 'store_true', 'help': 'go by the shapes that are saved beside the answers'},
+           '-n': {'dest': 'dry', 'action': 'store_true', 'help': 'change no file'}}
+
+COMMANDS = {'shape': (commands.shape, 'CRATE --gen'),
+            'write': (commands.write, 'CRATE [FN..] --gen --saved -n'),
+            'test': (commands.test, '[CRATE] [FN..] --gen --saved'),
+            'things': (commands.things, 'CRATE FN [NEED..] --gen'),
+            'new': (commands.new, 'CRATE FN.. --gen -n'),
+            'extract': (commands.extract_answers, 'CRATE [FN..] --gen -n'),
+            'cycles': (commands.cycles, '')}
+
+
+def parser():
+    out = argparse.ArgumentParser(prog='prove.py', description=__doc__, usage='prove.py COMMAND ..',
+                                  formatter_class=argparse.RawDescriptionHelpFormatter)
+    add = out.add_subparsers(required=True, metavar='COMMAND', help=argparse.SUPPRESS, prog='prove.py').add_parser
+    for name, (run, words) in COMMANDS.items():
+        command = add(name)
         command.set_defaults(run=run)
-    test = add('test', parents=[gen, saved])
-    test.add_argument('crate', metavar='CRATE', nargs='?')
-    test.add_argument('functions', **some)
-    test.set_defaults(run=commands.test)
-    things = add('things', parents=[crate, gen])
-    things.add_argument('function', metavar='FN')
-    things.add_argument('needs', metavar='NEED', nargs='*')
-    things.set_defaults(run=commands.things)
-    add('cycles').set_defaults(run=commands.cycles)
+        for word in words.split():
+            if word in OPTIONS:
+                command.add_argument(word, **OPTIONS[word])
+            else:
+                command.add_argument(metavar=word.strip('[.]'), **NAMES[word])
     return out
 
 
