@@ -4,11 +4,17 @@ use mathlib.Core.List.{List}
 use lib.Dec.{eqb}
 use Rattle.wire.specs.Field.{pick, field}
 use Rattle.wire.specs.Name.{name}
+use Rattle.wire.specs.declared.name.Name.{Name}
 use Rattle.codeview.specs.Record.{typeIndex, idIndex, place, entries}
 use Rattle.streams.specs.declared.refusal.Refusal.the-variants.{UnlistedKind}
 use Rattle.codeview.specs.declared.record.IdData.the-variants as id
 use Rattle.codeview.specs.declared.record.IdRead.{IdRead}
 use Rattle.codeview.specs.declared.record.IdRead.the-variants.{Good, Refused}
+
+-- What the ids of functions and of member functions have in the same places: whose function it is, its type, and its name.
+unfoldable pub functionParts : {A : Type 0} → ℕ → List ℕ → (ℕ → ℕ → Name → A) → A → A
+functionParts base b whole bad =
+    field 4 b 0 (λ owner. field 4 b 4 (λ function. name b 8 (λ n. whole owner function (place (base + 8) n)) bad) bad) bad
 
 module _ (bad : IdRead) (base : ℕ) where
   infixr 5 _⇒_
@@ -17,17 +23,13 @@ module _ (bad : IdRead) (base : ℕ) where
 
   unfoldable pub functionIdOf : List ℕ → IdRead
   functionIdOf b =
-      field 4 b 0 ⇒ λ scope.
-      field 4 b 4 ⇒ λ function.
-      name b 8 ⇒ λ n.
-      Good (id.Function (record { scope = idIndex scope; function = typeIndex function; name = place (base + 8) n }))
+      functionParts base b ⇒ λ scope function name.
+      Good (id.Function (record { scope = idIndex scope; function = typeIndex function; name = name }))
 
   unfoldable pub memberFunctionIdOf : List ℕ → IdRead
   memberFunctionIdOf b =
-      field 4 b 0 ⇒ λ parent.
-      field 4 b 4 ⇒ λ function.
-      name b 8 ⇒ λ n.
-      Good (id.MemberFunction (record { parent = typeIndex parent; function = typeIndex function; name = place (base + 8) n }))
+      functionParts base b ⇒ λ parent function name.
+      Good (id.MemberFunction (record { parent = typeIndex parent; function = typeIndex function; name = name }))
 
   unfoldable pub stringListOf : List ℕ → IdRead
   stringListOf b = entries base b ⇒ λ list. Good (id.StringList list)

@@ -9,6 +9,8 @@ use Rattle.wire.specs.Field.{pick, field}
 use Rattle.wire.specs.Leaf.{leaf, widthOf}
 use Rattle.wire.specs.Name.{name}
 use Rattle.wire.specs.declared.name.Name.{Name}
+use Rattle.wire.specs.declared.name.NameRead.{NameRead}
+use Rattle.wire.specs.declared.name.NameRead.the-variants.{Ended, Unended}
 use Rattle.codeview.specs.declared.index.TypeIndex.{TypeIndex}
 use Rattle.codeview.specs.declared.index.IdIndex.{IdIndex}
 use Rattle.streams.specs.declared.refusal.Refusal.the-variants.{Malformed, UnlistedKind}
@@ -38,6 +40,10 @@ bit k n = eqb (n / 2 ^ k % 2) 1
 -- A name that starts at a place and has so many bytes.
 abbrev pub place : ℕ → ℕ → Name
 place start len = record { start = start; len = len }
+
+-- The name at a place of the fields, as a place of the stream.
+abbrev pub placed : ℕ → List ℕ → ℕ → NameRead
+placed base b at = name b at (λ n. Ended (place (base + at) n)) Unended
 
 -- The name at a place and, where property bit 9 is set, the unique name behind it ("Property bit 9 adds a unique name").
 unfoldable pub names : {A : Type 0} → ℕ → ℕ → List ℕ → ℕ → (Name → UniqueName → A) → A → A

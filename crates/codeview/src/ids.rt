@@ -2,11 +2,14 @@
 ghost use mathlib.Core.Path.{_≡_};
 ghost use Prim.Native.Nat.{_+_, _<_, _^_};
 ghost use lib.ListN.{length};
-ghost use Rattle.codeview.specs.IdRecord.{functionIdOf, memberFunctionIdOf, stringListOf, stringOf, idOf};
+ghost use Rattle.codeview.specs.IdRecord.{functionParts, functionIdOf, memberFunctionIdOf, stringListOf, stringOf, idOf};
 ghost use Rattle.codeview.specs.Read.{readId};
 ghost use Rattle.streams.specs.declared.refusal.Refusal.the-variants.{Malformed};
 ghost use Rattle.codeview.specs.declared.record.IdRead.the-variants.{Refused};
+ghost use Rattle.codeview.specs.declared.ids.PartsRead.the-variants.{Whole, Cut};
 use crate::fields::EntriesRead;
+use crate::fields::name_in;
+use crate::fields::u32_in;
 use crate::index::IdIndex;
 use crate::index::TypeIndex;
 use crate::record::FunctionId;
@@ -17,9 +20,14 @@ use crate::record::StringId;
 use streams::refusal::Refusal;
 use streams::stream::Found;
 use streams::stream::Stream;
-use wire::field::Field32;
 use wire::name::Name;
 use wire::name::NameRead;
+
+// Whose function it is, the function's type, and its name.
+enum PartsRead {
+    Whole(u32, u32, Name),
+    Cut,
+}
 
 fn malformed(index: u32) -> IdRead
     ensures { λ r. ⌜ r ≡ Refused (Malformed index) ⌝ }
@@ -27,25 +35,29 @@ fn malformed(index: u32) -> IdRead
     IdRead::Refused(Refusal::Malformed(index))
 }
 
+// What the ids of functions and of member functions say in the same places.
+fn function_parts(b: &[u8], base: usize) -> PartsRead
+    requires { ⌜ base + length (now b) < 2 ^ 63 ⌝ }
+    ensures { λ r. ⌜ r ≡ functionParts base (now (b .entry)) Whole Cut ⌝ }
+{
+    if b.len() < 8 {
+        return PartsRead::Cut;
+    }
+    let NameRead::Ended(name) = name_in(b, base, 8) else {
+        return PartsRead::Cut;
+    };
+    PartsRead::Whole(u32_in(b, 0), u32_in(b, 4), name)
+}
+
 fn function_id(b: &[u8], base: usize, index: u32) -> IdRead
     requires { ⌜ base + length (now b) < 2 ^ 63 ⌝ }
     ensures { λ r. ⌜ r ≡ functionIdOf (Refused (Malformed index)) base (now (b .entry)) ⌝ }
 {
-    let Field32::Value(scope) = wire::field::u32_at(b, 0) else {
+    let PartsRead::Whole(owner, function, name) = function_parts(b, base) else {
         return malformed(index);
-    };
-    let Field32::Value(function) = wire::field::u32_at(b, 4) else {
-        return malformed(index);
-    };
-    let NameRead::Ended(name) = wire::name::name_at(b, 8) else {
-        return malformed(index);
-    };
-    let name = Name {
-        start: base + 8,
-        len: name.len,
     };
     IdRead::Good(IdData::Function(FunctionId {
-        scope: IdIndex(scope),
+        scope: IdIndex(owner),
         function: TypeIndex(function),
         name,
     }))
@@ -55,21 +67,11 @@ fn member_function_id(b: &[u8], base: usize, index: u32) -> IdRead
     requires { ⌜ base + length (now b) < 2 ^ 63 ⌝ }
     ensures { λ r. ⌜ r ≡ memberFunctionIdOf (Refused (Malformed index)) base (now (b .entry)) ⌝ }
 {
-    let Field32::Value(parent) = wire::field::u32_at(b, 0) else {
+    let PartsRead::Whole(owner, function, name) = function_parts(b, base) else {
         return malformed(index);
-    };
-    let Field32::Value(function) = wire::field::u32_at(b, 4) else {
-        return malformed(index);
-    };
-    let NameRead::Ended(name) = wire::name::name_at(b, 8) else {
-        return malformed(index);
-    };
-    let name = Name {
-        start: base + 8,
-        len: name.len,
     };
     IdRead::Good(IdData::MemberFunction(MemberFunctionId {
-        parent: TypeIndex(parent),
+        parent: TypeIndex(owner),
         function: TypeIndex(function),
         name,
     }))
@@ -89,18 +91,14 @@ fn string_id(b: &[u8], base: usize, index: u32) -> IdRead
     requires { ⌜ base + length (now b) < 2 ^ 63 ⌝ }
     ensures { λ r. ⌜ r ≡ stringOf (Refused (Malformed index)) base (now (b .entry)) ⌝ }
 {
-    let Field32::Value(list) = wire::field::u32_at(b, 0) else {
+    if b.len() < 4 {
         return malformed(index);
-    };
-    let NameRead::Ended(name) = wire::name::name_at(b, 4) else {
+    }
+    let NameRead::Ended(name) = name_in(b, base, 4) else {
         return malformed(index);
-    };
-    let name = Name {
-        start: base + 4,
-        len: name.len,
     };
     IdRead::Good(IdData::String(StringId {
-        list: IdIndex(list),
+        list: IdIndex(u32_in(b, 0)),
         name,
     }))
 }

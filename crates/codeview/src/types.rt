@@ -10,6 +10,10 @@ ghost use Rattle.codeview.specs.declared.record.TypeRead.the-variants.{R
 ghost use Rattle.codeview.specs.declared.types.ModeRead.the-variants.{Known, Unknown};
 use crate::fields::EntriesRead;
 use crate::fields::Names;
+use crate::fields::has_bit;
+use crate::fields::name_in;
+use crate::fields::u16_in;
+use crate::fields::u32_in;
 use crate::index::TypeIndex;
 use crate::record::ArrayType;
 use crate::record::ClassKind;
@@ -28,10 +32,8 @@ use crate::record::UnionType;
 use streams::refusal::Refusal;
 use streams::stream::Found;
 use streams::stream::Stream;
-use wire::field::Field16;
 use wire::field::Field32;
 use wire::leaf::Leaf;
-use wire::name::Name;
 use wire::name::NameRead;
 
 enum ModeRead {
@@ -61,13 +63,10 @@ fn pointer_mode(mode: u32) -> ModeRead
 fn containing_class(b: &[u8]) -> Field32
     ensures { λ r. ⌜ r ≡ containing (now (b .entry)) f32.Value f32.Outside ⌝ }
 {
-    let Field32::Value(class) = wire::field::u32_at(b, 8) else {
+    if b.len() < 14 {
         return Field32::Outside;
-    };
-    let Field16::Value(_) = wire::field::u16_at(b, 12) else {
-        return Field32::Outside;
-    };
-    Field32::Value(class)
+    }
+    Field32::Value(u32_in(b, 8))
 }
 
 fn member_class(b: &[u8], mode: PointerMode) -> Field32
@@ -85,46 +84,36 @@ fn member_class(b: &[u8], mode: PointerMode) -> Field32
 fn modifier(b: &[u8], base: usize, index: u32) -> TypeRead
     ensures { λ r. ⌜ r ≡ modifierOf (Refused (Malformed index)) base (now (b .entry)) ⌝ }
 {
-    let Field32::Value(underlying) = wire::field::u32_at(b, 0) else {
+    if b.len() < 6 {
         return malformed(index);
-    };
-    let Field16::Value(attributes) = wire::field::u16_at(b, 4) else {
-        return malformed(index);
-    };
-    let bits = attributes as u32;
-    let constant = crate::fields::has_bit(bits, 1);
-    let volatile = crate::fields::has_bit(bits, 2);
-    let unaligned = crate::fields::has_bit(bits, 4);
+    }
+    let attributes = u16_in(b, 4) as u32;
     TypeRead::Good(TypeData::Modifier(ModifierType {
-        underlying: TypeIndex(underlying),
-        constant,
-        volatile,
-        unaligned,
+        underlying: TypeIndex(u32_in(b, 0)),
+        constant: has_bit(attributes, 1),
+        volatile: has_bit(attributes, 2),
+        unaligned: has_bit(attributes, 4),
     }))
 }
 
 fn pointer(b: &[u8], base: usize, index: u32) -> TypeRead
     ensures { λ r. ⌜ r ≡ pointerOf (Refused (Malformed index)) base (now (b .entry)) ⌝ }
 {
-    let Field32::Value(underlying) = wire::field::u32_at(b, 0) else {
+    if b.len() < 8 {
         return malformed(index);
-    };
-    let Field32::Value(attributes) = wire::field::u32_at(b, 4) else {
-        return malformed(index);
-    };
+    }
+    let attributes = u32_in(b, 4);
     let ModeRead::Known(mode) = pointer_mode(attributes / 32 % 8) else {
         return malformed(index);
     };
     let Field32::Value(class) = member_class(b, mode) else {
         return malformed(index);
     };
-    let constant = crate::fields::has_bit(attributes, 0x400);
-    let volatile = crate::fields::has_bit(attributes, 0x200);
     TypeRead::Good(TypeData::Pointer(PointerType {
-        underlying: TypeIndex(underlying),
+        underlying: TypeIndex(u32_in(b, 0)),
         mode,
-        constant,
-        volatile,
+        constant: has_bit(attributes, 0x400),
+        volatile: has_bit(attributes, 0x200),
         size: attributes / 8192 % 64,
         class: TypeIndex(class),
     }))
@@ -133,60 +122,31 @@ fn pointer(b: &[u8], base: usize, index: u32) -> TypeRead
 fn procedure(b: &[u8], base: usize, index: u32) -> TypeRead
     ensures { λ r. ⌜ r ≡ procedureOf (Refused (Malformed index)) base (now (b .entry)) ⌝ }
 {
-    let Field32::Value(result) = wire::field::u32_at(b, 0) else {
+    if b.len() < 12 {
         return malformed(index);
-    };
-    let Field16::Value(attributes) = wire::field::u16_at(b, 4) else {
-        return malformed(index);
-    };
-    let Field16::Value(parameters) = wire::field::u16_at(b, 6) else {
-        return malformed(index);
-    };
-    let Field32::Value(arguments) = wire::field::u32_at(b, 8) else {
-        return malformed(index);
-    };
-    let constructor = crate::fields::has_bit(attributes as u32, 0x200);
+    }
     TypeRead::Good(TypeData::Procedure(ProcedureType {
-        result: TypeIndex(result),
-        constructor,
-        parameters,
-        arguments: TypeIndex(arguments),
+        result: TypeIndex(u32_in(b, 0)),
+        constructor: has_bit(u16_in(b, 4) as u32, 0x200),
+        parameters: u16_in(b, 6),
+        arguments: TypeIndex(u32_in(b, 8)),
     }))
 }
 
 fn member_function(b: &[u8], base: usize, index: u32) -> TypeRead
     ensures { λ r. ⌜ r ≡ memberFunctionOf (Refused (Malformed index)) base (now (b .entry)) ⌝ }
 {
-    let Field32::Value(result) = wire::field::u32_at(b, 0) else {
+    if b.len() < 24 {
         return malformed(index);
-    };
-    let Field32::Value(class) = wire::field::u32_at(b, 4) else {
-        return malformed(index);
-    };
-    let Field32::Value(this) = wire::field::u32_at(b, 8) else {
-        return malformed(index);
-    };
-    let Field16::Value(attributes) = wire::field::u16_at(b, 12) else {
-        return malformed(index);
-    };
-    let Field16::Value(parameters) = wire::field::u16_at(b, 14) else {
-        return malformed(index);
-    };
-    let Field32::Value(arguments) = wire::field::u32_at(b, 16) else {
-        return malformed(index);
-    };
-    let Field32::Value(adjustment) = wire::field::u32_at(b, 20) else {
-        return malformed(index);
-    };
-    let constructor = crate::fields::has_bit(attributes as u32, 0x200);
+    }
     TypeRead::Good(TypeData::MemberFunction(MemberFunctionType {
-        result: TypeIndex(result),
-        class: TypeIndex(class),
-        this: TypeIndex(this),
-        constructor,
-        parameters,
-        arguments: TypeIndex(arguments),
-        adjustment,
+        result: TypeIndex(u32_in(b, 0)),
+        class: TypeIndex(u32_in(b, 4)),
+        this: TypeIndex(u32_in(b, 8)),
+        constructor: has_bit(u16_in(b, 12) as u32, 0x200),
+        parameters: u16_in(b, 14),
+        arguments: TypeIndex(u32_in(b, 16)),
+        adjustment: u32_in(b, 20),
     }))
 }
 
@@ -204,21 +164,17 @@ fn enumerate(b: &[u8], base: usize, index: u32) -> TypeRead
     requires { ⌜ base + length (now b) < 2 ^ 63 ⌝ }
     ensures { λ r. ⌜ r ≡ enumerateOf (Refused (Malformed index)) base (now (b .entry)) ⌝ }
 {
-    let Field16::Value(attributes) = wire::field::u16_at(b, 0) else {
+    if b.len() < 2 {
         return malformed(index);
-    };
+    }
     let Leaf::Number { value, width, next } = wire::leaf::leaf_at(b, 2, true) else {
         return malformed(index);
     };
-    let NameRead::Ended(name) = wire::name::name_at(b, next) else {
+    let NameRead::Ended(name) = name_in(b, base, next) else {
         return malformed(index);
     };
-    let name = Name {
-        start: base + next,
-        len: name.len,
-    };
     TypeRead::Good(TypeData::Enumerate(EnumerateType {
-        attributes,
+        attributes: u16_in(b, 0),
         value,
         width,
         name,
@@ -229,12 +185,9 @@ fn array(b: &[u8], base: usize, index: u32) -> TypeRead
     requires { ⌜ base + length (now b) < 2 ^ 63 ⌝ }
     ensures { λ r. ⌜ r ≡ arrayOf (Refused (Malformed index)) base (now (b .entry)) ⌝ }
 {
-    let Field32::Value(element) = wire::field::u32_at(b, 0) else {
+    if b.len() < 8 {
         return malformed(index);
-    };
-    let Field32::Value(indexing) = wire::field::u32_at(b, 4) else {
-        return malformed(index);
-    };
+    }
     let Leaf::Number {
         value,
         width: _,
@@ -243,19 +196,15 @@ fn array(b: &[u8], base: usize, index: u32) -> TypeRead
     else {
         return malformed(index);
     };
-    let NameRead::Ended(name) = wire::name::name_at(b, next) else {
+    let NameRead::Ended(name) = name_in(b, base, next) else {
         return malformed(index);
     };
     if 4_294_967_295 < value {
         return malformed(index);
     }
-    let name = Name {
-        start: base + next,
-        len: name.len,
-    };
     TypeRead::Good(TypeData::Array(ArrayType {
-        element: TypeIndex(element),
-        indexing: TypeIndex(indexing),
+        element: TypeIndex(u32_in(b, 0)),
+        indexing: TypeIndex(u32_in(b, 4)),
         size: value,
         name,
     }))
@@ -265,22 +214,10 @@ fn class(b: &[u8], base: usize, index: u32, kind: ClassKind) -> TypeRead
     requires { ⌜ base + length (now b) < 2 ^ 63 ⌝ }
     ensures { λ r. ⌜ r ≡ classOf (Refused (Malformed index)) base kind (now (b .entry)) ⌝ }
 {
-    let Field16::Value(count) = wire::field::u16_at(b, 0) else {
+    if b.len() < 16 {
         return malformed(index);
-    };
-    let Field16::Value(properties) = wire::field::u16_at(b, 2) else {
-        return malformed(index);
-    };
-    let forward = crate::fields::has_bit(properties as u32, 0x80);
-    let Field32::Value(fields) = wire::field::u32_at(b, 4) else {
-        return malformed(index);
-    };
-    let Field32::Value(derived) = wire::field::u32_at(b, 8) else {
-        return malformed(index);
-    };
-    let Field32::Value(shape) = wire::field::u32_at(b, 12) else {
-        return malformed(index);
-    };
+    }
+    let properties = u16_in(b, 2);
     let Leaf::Number {
         value,
         width: _,
@@ -294,11 +231,11 @@ fn class(b: &[u8], base: usize, index: u32, kind: ClassKind) -> TypeRead
     };
     TypeRead::Good(TypeData::Class(ClassType {
         kind,
-        count,
-        forward,
-        fields: TypeIndex(fields),
-        derived: TypeIndex(derived),
-        shape: TypeIndex(shape),
+        count: u16_in(b, 0),
+        forward: has_bit(properties as u32, 0x80),
+        fields: TypeIndex(u32_in(b, 4)),
+        derived: TypeIndex(u32_in(b, 8)),
+        shape: TypeIndex(u32_in(b, 12)),
         size: value,
         name,
         unique,
@@ -309,16 +246,10 @@ fn union_type(b: &[u8], base: usize, index: u32) -> TypeRead
     requires { ⌜ base + length (now b) < 2 ^ 63 ⌝ }
     ensures { λ r. ⌜ r ≡ unionOf (Refused (Malformed index)) base (now (b .entry)) ⌝ }
 {
-    let Field16::Value(count) = wire::field::u16_at(b, 0) else {
+    if b.len() < 8 {
         return malformed(index);
-    };
-    let Field16::Value(properties) = wire::field::u16_at(b, 2) else {
-        return malformed(index);
-    };
-    let forward = crate::fields::has_bit(properties as u32, 0x80);
-    let Field32::Value(fields) = wire::field::u32_at(b, 4) else {
-        return malformed(index);
-    };
+    }
+    let properties = u16_in(b, 2);
     let Leaf::Number {
         value,
         width: _,
@@ -331,9 +262,9 @@ fn union_type(b: &[u8], base: usize, index: u32) -> TypeRead
         return malformed(index);
     };
     TypeRead::Good(TypeData::Union(UnionType {
-        count,
-        forward,
-        fields: TypeIndex(fields),
+        count: u16_in(b, 0),
+        forward: has_bit(properties as u32, 0x80),
+        fields: TypeIndex(u32_in(b, 4)),
         size: value,
         name,
         unique,
@@ -344,27 +275,18 @@ fn enumeration(b: &[u8], base: usize, index: u32) -> TypeRead
     requires { ⌜ base + length (now b) < 2 ^ 63 ⌝ }
     ensures { λ r. ⌜ r ≡ enumerationOf (Refused (Malformed index)) base (now (b .entry)) ⌝ }
 {
-    let Field16::Value(count) = wire::field::u16_at(b, 0) else {
+    if b.len() < 12 {
         return malformed(index);
-    };
-    let Field16::Value(properties) = wire::field::u16_at(b, 2) else {
-        return malformed(index);
-    };
-    let forward = crate::fields::has_bit(properties as u32, 0x80);
-    let Field32::Value(underlying) = wire::field::u32_at(b, 4) else {
-        return malformed(index);
-    };
-    let Field32::Value(fields) = wire::field::u32_at(b, 8) else {
-        return malformed(index);
-    };
+    }
+    let properties = u16_in(b, 2);
     let Names::Both(name, unique) = crate::fields::names_at(b, base, 12, properties) else {
         return malformed(index);
     };
     TypeRead::Good(TypeData::Enumeration(EnumerationType {
-        count,
-        forward,
-        underlying: TypeIndex(underlying),
-        fields: TypeIndex(fields),
+        count: u16_in(b, 0),
+        forward: has_bit(properties as u32, 0x80),
+        underlying: TypeIndex(u32_in(b, 4)),
+        fields: TypeIndex(u32_in(b, 8)),
         name,
         unique,
     }))

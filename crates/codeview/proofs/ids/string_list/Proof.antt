@@ -1,6 +1,6 @@
--- The fields in their order: each return is the case of the definition where the reading stopped, or the whole record.
+-- The list, whole or cut.
 -- Assumes nothing.
-use Rattle.codeview.proofs.Answers.{readEntries, unreadEntries}
+use Rattle.codeview.proofs.Answers.{goesEntries}
 use Rattle.codeview.specs.IdRecord.{stringListOf}
 use borrow.Author.Needs.{needs}
 use Rattle.codeview.proofs.ids.string_list.Statement.{statement}
@@ -20,11 +20,11 @@ malformed-requires c κs = search needs
 
 returns : tie.Need-returns
 unfolding stringListOf
-returns c = rw (unreadEntries _ _ (c .before .before .before .entries-of .ensures) (c .before .enum-told .given .1), c .malformed .ensures)
+returns c = rw (goesEntries _ _ (c .before .before .before .entries-of .ensures), c .before .enum-told .given .1, c .malformed .ensures)
 
 returns-2 : tie.Need-returns-2
 unfolding stringListOf
-returns-2 c = rw (readEntries _ _ (c .before .before .before .entries-of .ensures) _ (c .before .list .given .1))
+returns-2 c = rw (goesEntries _ _ (c .before .before .before .entries-of .ensures), c .before .list .given .1)
 
 pub string-list-spec : {M : Type 1} → statement M
 string-list-spec =

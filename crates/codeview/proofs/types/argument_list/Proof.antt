@@ -1,7 +1,7 @@
--- The fields in their order: each return is the case of the definition where the reading stopped, or the whole record.
+-- The list, whole or cut.
 -- Assumes nothing.
-use Rattle.codeview.proofs.Answers.{readEntries, unreadEntries}
-use Rattle.codeview.specs.Record.{argumentListOf, bit}
+use Rattle.codeview.proofs.Answers.{goesEntries}
+use Rattle.codeview.specs.Record.{argumentListOf}
 use borrow.Author.Needs.{needs}
 use Rattle.codeview.proofs.types.argument_list.Statement.{statement}
 use Rattle.codeview.proofs.types.argument_list.Tie as tie
@@ -19,12 +19,12 @@ malformed-requires : tie.Need-malformed-requires
 malformed-requires c κs = search needs
 
 returns : tie.Need-returns
-unfolding argumentListOf bit
-returns c = rw (unreadEntries _ _ (c .before .before .before .entries-of .ensures) (c .before .enum-told .given .1), c .malformed .ensures)
+unfolding argumentListOf
+returns c = rw (goesEntries _ _ (c .before .before .before .entries-of .ensures), c .before .enum-told .given .1, c .malformed .ensures)
 
 returns-2 : tie.Need-returns-2
-unfolding argumentListOf bit
-returns-2 c = rw (readEntries _ _ (c .before .before .before .entries-of .ensures) _ (c .before .list .given .1))
+unfolding argumentListOf
+returns-2 c = rw (goesEntries _ _ (c .before .before .before .entries-of .ensures), c .before .list .given .1)
 
 pub argument-list-spec : {M : Type 1} → statement M
 argument-list-spec =
