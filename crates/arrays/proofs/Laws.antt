@@ -9,7 +9,7 @@ use native.Mathlib.Nat.{zero-add}
 use native.Mathlib.Omega.{arith}
 use borrow.Author.Tests.{eq-eqb, ne-eqb}
 use denote.Enum.Declared.{tagOf}
-use package.types.Run.{OneOf, miss}
+use package.types.Run.{OneOf}
 use Rattle.streams.specs.declared.refusal.Refusal.{Refusal}
 use Rattle.streams.specs.declared.stream.Stream.{Stream}
 use Rattle.codeview.specs.Read.{readType}
@@ -20,6 +20,7 @@ use Rattle.codeview.specs.declared.record.TypeData.the-variants as type
 use Rattle.codeview.specs.declared.record.TypeRead.{TypeRead}
 use Rattle.codeview.specs.declared.record.TypeRead.the-variants as typeRead
 use Rattle.codeview.proofs.record.TypeData.{the-type}
+use Rattle.codeview.proofs.Tags.{by-tag}
 use Rattle.reading.specs.Trace.{Trace, tr, count, prefix, halted, long, limit, call, exec, Held}
 use Rattle.reading.proofs.Laws.{walk-through}
 use Rattle.rules.specs.Flags.{Settings}
@@ -55,18 +56,7 @@ notArray = 0 ∷ 1 ∷ 2 ∷ 3 ∷ 4 ∷ 5 ∷ 6 ∷ 8 ∷ 9 ∷ 10 ∷ 11 ∷ [
 
 no-array : {A : Type 0} (s : List ℕ) (t : TypeData) (f : ℕ → ℕ → A) (z : A) → OneOf notArray (tagOf the-type t) → arrayOr (typeContents s t) f z ≡ z
 unfolding typeContents
-no-array s (type.Primitive p) f z n = refl
-no-array s (type.Modifier m) f z n = refl
-no-array s (type.Pointer p) f z n = refl
-no-array s (type.Procedure p) f z n = refl
-no-array s (type.MemberFunction m) f z n = refl
-no-array s (type.ArgumentList e) f z n = refl
-no-array s (type.Enumerate e) f z n = refl
-no-array s (type.Array a) f z n = absurd (miss notArray 7 tt n)
-no-array s (type.Class c) f z n = refl
-no-array s (type.Union u) f z n = refl
-no-array s (type.Enumeration e) f z n = refl
-no-array s (type.Unhandled k) f z n = refl
+no-array s t f z = by-tag notArray (λ t. arrayOr (typeContents s t) f z ≡ z) (search) t
 
 module _ (c : Settings) (types : List ℕ) (stream : Stream) (ids : List ℕ) (u : Stream) (h : Held) where
   abbrev table : Table

@@ -6,7 +6,7 @@ use mathlib.Core.Bool.{Bool, true, false}
 use lib.Dec.{eqb}
 use borrow.Author.Tests.{eq-eqb, ne-eqb}
 use denote.Enum.Declared.{tagOf}
-use package.types.Run.{OneOf, miss}
+use package.types.Run.{OneOf}
 use Rattle.wire.specs.Field.{pick}
 use Rattle.streams.specs.declared.refusal.Refusal.{Refusal}
 use Rattle.codeview.specs.declared.record.PointerType.{PointerType}
@@ -16,6 +16,7 @@ use Rattle.codeview.specs.declared.record.TypeData.the-variants as type
 use Rattle.codeview.specs.declared.record.TypeRead.{TypeRead}
 use Rattle.codeview.specs.declared.record.TypeRead.the-variants as typeRead
 use Rattle.codeview.proofs.record.TypeData.{the-type}
+use Rattle.codeview.proofs.Tags.{by-tag}
 use Rattle.rules.specs.Flags.{Settings}
 use Rattle.rules.specs.Record.{
   Record,
@@ -60,34 +61,12 @@ notPointer = 0 ∷ 1 ∷ 3 ∷ 4 ∷ 5 ∷ 6 ∷ 7 ∷ 8 ∷ 9 ∷ 10 ∷ 11 ∷
 
 no-modifier : (s : List ℕ) (class : ℕ) (t : TypeData) → OneOf notModifier (tagOf the-type t) → modified class (typeContents s t) ≡ Other
 unfolding modified typeContents
-no-modifier s class (type.Primitive p) n = refl
-no-modifier s class (type.Modifier m) n = absurd (miss notModifier 1 tt n)
-no-modifier s class (type.Pointer p) n = refl
-no-modifier s class (type.Procedure p) n = refl
-no-modifier s class (type.MemberFunction m) n = refl
-no-modifier s class (type.ArgumentList e) n = refl
-no-modifier s class (type.Enumerate e) n = refl
-no-modifier s class (type.Array a) n = refl
-no-modifier s class (type.Class c) n = refl
-no-modifier s class (type.Union u) n = refl
-no-modifier s class (type.Enumeration e) n = refl
-no-modifier s class (type.Unhandled k) n = refl
+no-modifier s class = by-tag notModifier (λ t. modified class (typeContents s t) ≡ Other) search
 
 no-pointer : (s : List ℕ) (t : TypeData) (f : ℕ → ThisRead) → OneOf notPointer (tagOf the-type t)
     → pointerOr (typeContents s t) (λ u mode a size. f u) Other ≡ Other
 unfolding typeContents
-no-pointer s (type.Primitive p) f n = refl
-no-pointer s (type.Modifier m) f n = refl
-no-pointer s (type.Pointer p) f n = absurd (miss notPointer 2 tt n)
-no-pointer s (type.Procedure p) f n = refl
-no-pointer s (type.MemberFunction m) f n = refl
-no-pointer s (type.ArgumentList e) f n = refl
-no-pointer s (type.Enumerate e) f n = refl
-no-pointer s (type.Array a) f n = refl
-no-pointer s (type.Class c) f n = refl
-no-pointer s (type.Union u) f n = refl
-no-pointer s (type.Enumeration e) f n = refl
-no-pointer s (type.Unhandled k) f n = refl
+no-pointer s t f = by-tag notPointer (λ t. pointerOr (typeContents s t) (λ u mode a size. f u) Other ≡ Other) (search) t
 
 -- What is pointed to, by case.
 pub pointee-same : (types : ℕ → Read Record) (u class : ℕ) → u ≡ class → Given false ≡ pointeeOf types u class

@@ -8,7 +8,7 @@ use lib.ListN.{length, getD, List·getD-eq-default}
 use native.Mathlib.Omega.{arith}
 use borrow.Author.Tests.{eq-eqb, ne-eqb}
 use denote.Enum.Declared.{tagOf}
-use package.types.Run.{OneOf, miss}
+use package.types.Run.{OneOf}
 use Rattle.wire.specs.Field.{pick, number}
 use Rattle.wire.specs.Text.{bytes}
 use Rattle.codeview.specs.declared.record.ClassType.{ClassType}
@@ -18,6 +18,7 @@ use Rattle.codeview.specs.declared.record.EnumerateType.{EnumerateType}
 use Rattle.codeview.specs.declared.record.TypeData.{TypeData}
 use Rattle.codeview.specs.declared.record.TypeData.the-variants as type
 use Rattle.codeview.proofs.record.TypeData.{the-type}
+use Rattle.codeview.proofs.Tags.{by-tag}
 use Rattle.rules.specs.Flags.{Settings}
 use Rattle.rules.specs.Record.{nameAt, typeContents}
 use Rattle.rules.specs.Rules.{namedText}
@@ -95,18 +96,7 @@ looked = 0 ∷ 1 ∷ 2 ∷ 3 ∷ 4 ∷ 5 ∷ 7 ∷ []
 
 pub record-none : (c : Settings) (s : List ℕ) (t : TypeData) → OneOf looked (tagOf the-type t) → say [] ≡ say (recordText c s t)
 unfolding recordText typeContents
-record-none c s (type.Primitive p) n = refl
-record-none c s (type.Modifier m) n = refl
-record-none c s (type.Pointer p) n = refl
-record-none c s (type.Procedure p) n = refl
-record-none c s (type.MemberFunction m) n = refl
-record-none c s (type.ArgumentList e) n = refl
-record-none c s (type.Enumerate e) n = absurd (miss looked 6 tt n)
-record-none c s (type.Array a) n = refl
-record-none c s (type.Class x) n = absurd (miss looked 8 tt n)
-record-none c s (type.Union u) n = absurd (miss looked 9 tt n)
-record-none c s (type.Enumeration e) n = absurd (miss looked 10 tt n)
-record-none c s (type.Unhandled k) n = absurd (miss looked 11 tt n)
+record-none c s = by-tag looked (λ t. say [] ≡ say (recordText c s t)) search
 
 -- The signs behind a text, by its last byte.
 pub signs-behind-star : (c : Settings) (ls : List Level) (b n : ℕ) → b ≡ n → b ≡ 42 → say (levels c true true ls) ≡ say (levels c true (isSign n) ls)

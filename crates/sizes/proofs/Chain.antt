@@ -7,7 +7,7 @@ use mathlib.Core.List.{List, [], _∷_}
 use lib.Dec.{eqb, leb}
 use borrow.Author.Tests.{lt-leb, le-leb}
 use denote.Enum.Declared.{tagOf}
-use package.types.Run.{OneOf, miss}
+use package.types.Run.{OneOf}
 use Rattle.wire.specs.Field.{pick}
 use Rattle.streams.specs.declared.refusal.Refusal.{Refusal}
 use Rattle.codeview.specs.Read.{readType}
@@ -27,6 +27,7 @@ use Rattle.codeview.specs.declared.record.ClassType.{ClassType}
 use Rattle.codeview.specs.declared.record.UnionType.{UnionType}
 use Rattle.codeview.specs.declared.record.EnumerationType.{EnumerationType}
 use Rattle.codeview.proofs.record.TypeData.{the-type}
+use Rattle.codeview.proofs.Tags.{by-tag}
 use Rattle.reading.specs.Trace.{exec, prefix, count, limit, Held, Trace}
 use Rattle.reading.proofs.Laws.{walk-through}
 use Rattle.rules.specs.Flags.{Settings, settings}
@@ -125,18 +126,8 @@ notPrimitive = 1 ∷ 2 ∷ 3 ∷ 4 ∷ 5 ∷ 6 ∷ 7 ∷ 8 ∷ 9 ∷ 10 ∷ 11 �
 counted : (c : Settings) (b : Table) (i n : ℕ) (s : List ℕ) (t : TypeData) → OneOf notPrimitive (tagOf the-type t)
     → sizeStep c b i n (good (typeContents s t)) ≡ limit (leb 32 n) i (recordSize c b i n (typeContents s t))
 unfolding sizeStep typeContents
-counted c b i n s (type.Primitive p) o = absurd (miss notPrimitive 0 tt o)
-counted c b i n s (type.Modifier m) o = refl
-counted c b i n s (type.Pointer p) o = refl
-counted c b i n s (type.Procedure p) o = refl
-counted c b i n s (type.MemberFunction m) o = refl
-counted c b i n s (type.ArgumentList e) o = refl
-counted c b i n s (type.Enumerate e) o = refl
-counted c b i n s (type.Array a) o = refl
-counted c b i n s (type.Class x) o = refl
-counted c b i n s (type.Union u) o = refl
-counted c b i n s (type.Enumeration e) o = refl
-counted c b i n s (type.Unhandled k) o = refl
+counted c b i n s =
+    by-tag notPrimitive (λ t. sizeStep c b i n (good (typeContents s t)) ≡ limit (leb 32 n) i (recordSize c b i n (typeContents s t))) search
 
 -- The size of an index, by what was read.
 module _ (types : List ℕ) (call : Call) (i n : ℕ) {q : TypeRead} (read : q ≡ readType types (call .types) i) where

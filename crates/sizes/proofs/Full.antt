@@ -11,7 +11,7 @@ use lib.Seq.{drop-cons}
 use lib.Dec.{eqb, leb, ltb}
 use borrow.Author.Tests.{eq-eqb, ne-eqb, lt-ltb, le-ltb, lt-leb, le-leb}
 use denote.Enum.Declared.{tagOf}
-use package.types.Run.{OneOf, miss}
+use package.types.Run.{OneOf}
 use Rattle.wire.specs.Field.{pick}
 use Rattle.primitives.specs.Primitive.{primitives, firstOf}
 use Rattle.primitives.specs.declared.PrimitiveKind.{PrimitiveKind}
@@ -31,6 +31,7 @@ use Rattle.codeview.specs.declared.record.TypeData.the-variants as type
 use Rattle.codeview.specs.declared.record.TypeRead.{TypeRead}
 use Rattle.codeview.specs.declared.record.TypeRead.the-variants.{Good, Refused}
 use Rattle.codeview.proofs.record.TypeData.{the-type}
+use Rattle.codeview.proofs.Tags.{by-tag}
 use Rattle.rules.specs.Flags.{Settings}
 use Rattle.rules.specs.Record.{matchName, typeContents, typeReading, tableOf}
 use Rattle.rules.specs.Text.{sameBytes}
@@ -91,18 +92,7 @@ module _ (s : List ℕ) (name : List ℕ) where
 
   none : (t : TypeData) → OneOf noLayout (tagOf the-type t) → (o : ℕ) → orElse Other o ≡ fullOr (typeReading s (Good t)) name o
   unfolding orElse fullOr typeReading typeContents fullNamed
-  none (type.Primitive p) n o = refl
-  none (type.Modifier m) n o = refl
-  none (type.Pointer p) n o = refl
-  none (type.Procedure p) n o = refl
-  none (type.MemberFunction m) n o = refl
-  none (type.ArgumentList e) n o = refl
-  none (type.Enumerate e) n o = refl
-  none (type.Array a) n o = refl
-  none (type.Class c) n o = absurd (miss noLayout 8 tt n)
-  none (type.Union u) n o = absurd (miss noLayout 9 tt n)
-  none (type.Enumeration e) n o = refl
-  none (type.Unhandled k) n o = refl
+  none t n o = by-tag noLayout (λ t. orElse Other o ≡ fullOr (typeReading s (Good t)) name o) (search) t n
 
   pub full-none : (t : TypeData) → OneOf noLayout (tagOf the-type t) → FullOf s (Good t) name Other
   full-none t n = record { is = none t n }
