@@ -1,21 +1,38 @@
 -- The laws of the stacks: one step of a search, a push, a change of the newest, and when a stack is full. Assumes nothing.
-use Prim.Native.Nat.{ℕ, suc, _+_, _-_, _*_, _/_, _%_, _<_, _≤_, min}
+use Prim.Native.Nat.{ℕ, zero, suc, _+_, _-_, _*_, _/_, _%_, _^_, _<_, _≤_, min}
 use mathlib.Core.Path.{_≡_, refl, ap, sym, _∙_}
 use mathlib.Core.List.{List, [], _∷_, map}
-use mathlib.Core.Bool.{Bool, true, false, _||_}
+use mathlib.Core.Bool.{Bool, true, false, not, _||_}
 use lib.ListN.{length, set, take, drop, getD, length-set, length-drop, length-map, drop-of-length-le}
 use lib.Seq.{drop-cons, drop-set-lt, getD-set-same, take-suc, take-suc-set, take-all}
+use lib.Bits.{bitAnd, and-high}
 use lib.Dec.{eqb, leb}
+use lib.Pow.{high-ones, pow-pos}
+use native.Mathlib.Nat.{one-mul}
 use native.Mathlib.Decide.{decLt}
 use native.Mathlib.Numerals.{add-one}
 use native.Mathlib.Omega.{arith}
 use borrow.Author.Tests.{eq-eqb, ne-eqb, lt-leb, le-leb}
 use Rattle.reading.specs.Trace.{Key, key}
 use Rattle.rules.specs.Text.{Level, level, overPointee}
+use Rattle.codeview.specs.Record.{bit}
 use Rattle.codeview.specs.declared.record.PointerMode.{PointerMode}
 use Rattle.context.specs.declared.levels.PtrAttributes.{PtrAttributes}
 use Rattle.codeview.specs.declared.record.PointerMode.the-variants as mode
-use Rattle.context.specs.Context.{keyOf, keysOf, hasIndex, entryNo, flagsByte, modeByte, modeAt, levelOf, levelAt}
+use Rattle.context.specs.Context.{intersects, keyOf, keysOf, hasIndex, entryNo, flagsByte, modeByte, modeAt, levelOf, levelAt}
+
+-- a flag that is one bit
+one-bit : (d p : ℕ) → d < 2 → 0 < p → not (eqb (d * p) 0) ≡ eqb d 1
+one-bit zero p h k = let e : 0 * p ≡ 0 = omega arith in rw e
+one-bit (suc zero) p h k = let e : 1 * p ≡ 0 → ⊥ = λ z. omega arith in rw (ne-eqb _ _ e)
+one-bit (suc (suc d)) p h k = absurd (omega arith)
+
+pub flag-bit : (k n : ℕ) → intersects n (2 ^ k) ≡ bit k n
+unfolding intersects bit
+flag-bit k n =
+    let w : 2 ^ k ≡ 2 ^ (1 + k) - 2 ^ k = sym (high-ones 1 k ∙ one-mul (2 ^ k)) in
+    let e : bitAnd n (2 ^ k) ≡ (n / 2 ^ k % 2) * 2 ^ k = ap (bitAnd n) w ∙ and-high n 1 k in
+    rw e (one-bit (n / 2 ^ k % 2) (2 ^ k) (omega arith) (pow-pos k))
 
 -- one step of a search
 pub has-here : (l : List ℕ) (n i : ℕ) → n < length l → getD l n 0 % 4_294_967_296 ≡ i → hasIndex i (keysOf (drop n l)) ≡ true

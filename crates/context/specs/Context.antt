@@ -1,9 +1,10 @@
 -- What the values that are passed down stand for: settings, open keys, pointer levels, array levels.
 use Prim.Native.Nat.{ℕ, _+_, _<_, _/_, _%_}
 use mathlib.Core.Path.{_≡_}
-use mathlib.Core.Bool.{Bool, true, false, _||_}
+use mathlib.Core.Bool.{Bool, true, false, not, _||_}
 use mathlib.Core.List.{List, [], _∷_, map}
 use lib.ListN.{drop, length}
+use lib.Bits.{bitAnd}
 use lib.Dec.{eqb, leb, ltb}
 use Rattle.wire.specs.Field.{pick}
 use Rattle.streams.specs.declared.refusal.Refusal.the-variants.{UnknownFlags}
@@ -25,9 +26,9 @@ use Rattle.context.specs.declared.levels.Dimensions.{Dimensions}
 unfoldable pub known : ℕ → FlagsRead
 known bits = pick (ltb bits 64) (Known (record { 0 = bits })) (Refused (UnknownFlags bits))
 
--- Whether a flag, given by its weight, is among some.
+-- Whether two sums of flags have a bit in common, as the Rust has it: `self.bits & other.bits != 0`.
 unfoldable pub intersects : ℕ → ℕ → Bool
-intersects bits weight = pick (eqb weight 0) false (eqb (bits / weight % 2) 1)
+intersects bits other = not (eqb (bitAnd bits other) 0)
 
 -- The settings and the table that a call's writers go by.
 unfoldable pub settingsOf : Call → Settings

@@ -37,16 +37,11 @@ impl TypeFormatterFlags {
         FlagsRead::Refused(Refusal::UnknownFlags(bits))
     }
 
-    // Whether a flag is among these. (Zero is no flag, and is among none.)
-    pub fn intersects(self, flag: TypeFormatterFlags) -> bool
-        ensures { λ r. ⌜ r ≡ Rattle.context.specs.Context.intersects (self .0) (flag .0) ⌝ }
+    // Whether some flag is among both.
+    pub fn intersects(self, other: TypeFormatterFlags) -> bool
+        ensures { λ r. ⌜ r ≡ Rattle.context.specs.Context.intersects (self .0) (other .0) ⌝ }
     {
-        let bits = self.0;
-        let weight = flag.0;
-        if weight == 0 {
-            return false;
-        }
-        bits / weight % 2 == 1
+        self.0 & other.0 != 0
     }
 }
 
