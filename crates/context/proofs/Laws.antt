@@ -12,14 +12,16 @@ use native.Mathlib.Nat.{one-mul}
 use native.Mathlib.Decide.{decLt}
 use native.Mathlib.Numerals.{add-one}
 use native.Mathlib.Omega.{arith}
-use borrow.Author.Tests.{eq-eqb, ne-eqb, lt-leb, le-leb}
+use borrow.Author.Tests.{eq-eqb, ne-eqb, lt-leb, le-leb, lt-ltb}
 use Rattle.reading.specs.Trace.{Key, key}
 use Rattle.rules.specs.Text.{Level, level, overPointee}
 use Rattle.codeview.specs.Record.{bit}
 use Rattle.codeview.specs.declared.record.PointerMode.{PointerMode}
+use Rattle.context.specs.declared.levels.Levels.{Levels}
+use Rattle.context.specs.declared.levels.Dimensions.{Dimensions}
 use Rattle.context.specs.declared.levels.PtrAttributes.{PtrAttributes}
 use Rattle.codeview.specs.declared.record.PointerMode.the-variants as mode
-use Rattle.context.specs.Context.{intersects, keyOf, keysOf, hasIndex, entryNo, flagsByte, modeByte, modeAt, levelOf, levelAt}
+use Rattle.context.specs.Context.{intersects, keyOf, keysOf, hasIndex, entryNo, flagsByte, modeByte, modeAt, levelByte, levelOf, levelAt, overLevels, sizesOf, pushedDimension}
 
 -- a flag that is one bit
 one-bit : (d p : ℕ) → d < 2 → 0 < p → not (eqb (d * p) 0) ≡ eqb d 1
@@ -105,16 +107,29 @@ entry-free l i h e =
     let m : length (keysOf l) < 96 = simp (keys-length l) (omega arith) in
     simp (h, lt-leb 96 _ m)
 
--- how many more levels of an array may follow
-pub room-is : (l : List ℕ) (n : ℕ) → length l ≡ 32 → leb 32 (length (drop n l)) ≡ eqb n 0
-room-is l n k = by (decLt 0 n)
+-- one level of an array more, and how many more may follow
+pub pushed-left : (o : Dimensions) (x n : ℕ) → o .left ≡ suc n → pushedDimension o x .left ≡ n
+unfolding pushedDimension
+pushed-left o x n e = omega arith
+
+pub pushed-items : (o : Dimensions) (x : ℕ) → length (pushedDimension o x .items) ≡ length (o .items)
+unfolding pushedDimension
+pushed-items o x = length-set (o .items) (o .left - 1) x
+
+pub pushed-sizes : (o : Dimensions) (x : ℕ) → 0 < o .left → o .left ≤ length (o .items) → sizesOf (pushedDimension o x) ≡ x ∷ sizesOf o
+unfolding pushedDimension sizesOf
+pushed-sizes o x h k = drop-push (o .items) (o .left) x h k
+
+pub room-is : (o : Dimensions) → length (o .items) ≡ 32 → leb 32 (length (sizesOf o)) ≡ eqb (o .left) 0
+unfolding sizesOf
+room-is o k = by (decLt 0 (o .left))
   where
-    by : Dec (0 < n) → leb 32 (length (drop n l)) ≡ eqb n 0
-    by (yes e) = let m : length (drop n l) < 32 = simp length-drop (omega arith) in let z : n ≡ 0 → ⊥ = λ z. omega arith in simp (ne-eqb _ _ z, lt-leb 32 _ m)
-    by (no e) = let m : 32 ≤ length (drop n l) = simp length-drop (omega arith) in let z : n ≡ 0 = omega arith in simp (eq-eqb _ _ z, le-leb 32 _ m)
+    by : Dec (0 < o .left) → leb 32 (length (drop (o .left) (o .items))) ≡ eqb (o .left) 0
+    by (yes e) = let m : length (drop (o .left) (o .items)) < 32 = simp length-drop (omega arith) in let z : o .left ≡ 0 → ⊥ = λ z. omega arith in simp (ne-eqb _ _ z, lt-leb 32 _ m)
+    by (no e) = let m : 32 ≤ length (drop (o .left) (o .items)) = simp length-drop (omega arith) in let z : o .left ≡ 0 = omega arith in simp (eq-eqb _ _ z, le-leb 32 _ m)
 
 -- a level is packed and taken apart again
-pub unpacked : (c p : Bool) (m : PointerMode) → levelAt (flagsByte c p + modeByte m) ≡ level c p m
+pub unpacked : (c p : Bool) (m : PointerMode) → levelAt (levelByte c p m) ≡ level c p m
 unfolding levelAt flagsByte modeByte modeAt
 unpacked false false mode.Pointer = refl
 unpacked false false mode.LValueReference = refl
@@ -154,6 +169,13 @@ over-none l n c h = rw (drop-of-length-le l h)
 
 pub over-read : (r : PtrAttributes) (b : ℕ) (c : Bool) → levelOf r ≡ levelAt b → level (r .constant) c (r .mode) ≡ level (levelAt b .constant) c (levelAt b .mode)
 over-read r b c e = ap (λ (l : Level). level (l .constant) c (l .mode)) e
+
+pub over-is : (o : Levels) (x : ℕ) (c : Bool) (r : PtrAttributes) → o .left < 96 → levelOf r ≡ levelAt (getD (o .items) (o .left) 0) → x ≡ levelByte (r .constant) c (r .mode)
+    → record { items = set (o .items) (o .left) x; left = o .left } ≡ overLevels o c
+unfolding overLevels
+over-is o x c r h e k =
+    let m : x ≡ levelByte (levelAt (getD (o .items) (o .left) 0) .constant) c (levelAt (getD (o .items) (o .left) 0) .mode) = k ∙ ap (λ (l : Level). levelByte (l .constant) c (l .mode)) e in
+    simp (lt-ltb _ _ h) (rw m)
 
 -- the five modes
 pub mode-first : (n : ℕ) → n ≡ 0 → mode.Pointer ≡ modeAt n

@@ -1,9 +1,9 @@
 -- What the values that are passed down stand for: settings, open keys, pointer levels, array levels.
-use Prim.Native.Nat.{ℕ, _+_, _<_, _/_, _%_}
+use Prim.Native.Nat.{ℕ, _+_, _-_, _<_, _/_, _%_}
 use mathlib.Core.Path.{_≡_}
 use mathlib.Core.Bool.{Bool, true, false, not, _||_}
 use mathlib.Core.List.{List, [], _∷_, map}
-use lib.ListN.{drop, length}
+use lib.ListN.{drop, getD, length, replicate, set}
 use lib.Bits.{bitAnd}
 use lib.Dec.{eqb, leb, ltb}
 use Rattle.wire.specs.Field.{pick}
@@ -80,6 +80,11 @@ modeByte mode.Member = 8
 modeByte mode.MemberFunction = 12
 modeByte mode.RValueReference = 16
 
+-- The byte of a level.
+abbrev pub levelByte : Bool → Bool → PointerMode → ℕ
+levelByte constant pointee mode = flagsByte constant pointee + modeByte mode
+
+-- And the level of a byte.
 unfoldable pub modeAt : ℕ → PointerMode
 modeAt n =
     pick (eqb n 0) mode.Pointer
@@ -90,14 +95,46 @@ modeAt n =
 unfoldable pub levelAt : ℕ → Level
 levelAt b = level (eqb (b % 2) 1) (eqb (b / 2 % 2) 1) (modeAt (b / 4))
 
+-- The levels lie from `left` to the end of their array, the innermost first.
 unfoldable pub levelsOf : Levels → List Level
 levelsOf o = map levelAt (drop (o .left) (o .items))
 
--- The byte sizes of an array's levels, the innermost first.
+-- No level: an array of zeros that has nothing behind `left`.
+unfoldable pub noLevels : Levels
+noLevels = record { items = replicate 96 0; left = 96 }
+
+-- One level more: its byte is set right below the others, and the rest of the array stays.
+unfoldable pub pushedLevel : Levels → PtrAttributes → Levels
+pushedLevel o l = record { items = set (o .items) (o .left - 1) (levelByte (l .constant) (l .pointee) (l .mode)); left = o .left - 1 }
+
+-- The innermost level, if there is one, with this const of what it points to.
+unfoldable pub overLevels : Levels → Bool → Levels
+overLevels o constant =
+    pick (ltb (o .left) 96)
+    (let l = levelAt (getD (o .items) (o .left) 0) in
+    record { items = set (o .items) (o .left) (levelByte (l .constant) constant (l .mode)); left = o .left })
+    o
+
+-- What a function that gives levels says: which value they are, the whole of it; and what follows, where they begin and what they stand for.
+pub record AreLevels (r whole : Levels) (begin : ℕ) (list : List Level) : Type 0 where
+  pub is : r ≡ whole
+  pub left : r .left ≡ begin
+  pub levels : levelsOf r ≡ list
+
+-- The byte sizes of an array's levels lie in the same way, the innermost first.
 unfoldable pub sizesOf : Dimensions → List ℕ
 sizesOf o = drop (o .left) (o .items)
 
--- What `room` gives: how many levels more may follow, and whether 32 are there.
-pub record Room (o : Dimensions) (r : ℕ) : Type 0 where
-  pub is : leb 32 (length (sizesOf o)) ≡ eqb r 0
-  pub free : r ≡ o .left
+-- No level of an array.
+unfoldable pub noDimensions : Dimensions
+noDimensions = record { items = replicate 32 0; left = 32 }
+
+-- One level of an array more, with these bytes.
+unfoldable pub pushedDimension : Dimensions → ℕ → Dimensions
+pushedDimension o bytes = record { items = set (o .items) (o .left - 1) bytes; left = o .left - 1 }
+
+-- What a function that gives levels of an array says: the same as of pointer levels.
+pub record AreSizes (r whole : Dimensions) (begin : ℕ) (list : List ℕ) : Type 0 where
+  pub is : r ≡ whole
+  pub left : r .left ≡ begin
+  pub sizes : sizesOf r ≡ list

@@ -2,8 +2,9 @@
 ghost use mathlib.Core.Path.{_≡_};
 ghost use mathlib.Core.List.{[], _∷_};
 ghost use Prim.Native.Nat.{_-_, _≤_, _<_};
-ghost use Rattle.rules.specs.Text.{level, overPointee};
-ghost use Rattle.context.specs.Context.{flagsByte, modeByte, modeAt, levelOf, levelAt, levelsOf, sizesOf, Room};
+ghost use Rattle.rules.specs.Text.{overPointee};
+ghost use Rattle.context.specs.Context.{flagsByte, modeByte, modeAt, levelByte, levelOf, levelAt, levelsOf, noLevels, pushedLevel, overLevels, AreLevels};
+ghost use Rattle.context.specs.Context.{sizesOf, noDimensions, pushedDimension, AreSizes};
 use codeview::record::PointerMode;
 
 pub struct PtrAttributes {
@@ -69,7 +70,7 @@ fn mode_of(n: u8) -> PointerMode
 }
 
 fn pack(constant: bool, pointee: bool, mode: PointerMode) -> u8
-    ensures { λ r. ⌜ levelAt r ≡ level constant pointee mode ⌝ }
+    ensures { λ r. ⌜ r ≡ levelByte constant pointee mode ⌝ }
 {
     let flags = flags_byte(constant, pointee);
     flags + mode_byte(mode)
@@ -88,7 +89,7 @@ pub fn unpack(b: u8) -> PtrAttributes
 }
 
 pub fn no_levels() -> Levels
-    ensures { λ r. ⌜ (r .left ≡ 96) × (levelsOf r ≡ []) ⌝ }
+    ensures { λ r. ⌜ AreLevels r noLevels 96 [] ⌝ }
 {
     Levels {
         items: [0; 96],
@@ -99,7 +100,7 @@ pub fn no_levels() -> Levels
 // One level further in.
 pub fn push_level(o: Levels, l: PtrAttributes) -> Levels
     requires { ⌜ (0 < o .left) × (o .left ≤ 96) ⌝ }
-    ensures { λ r. ⌜ (r .left ≡ o .left - 1) × (levelsOf r ≡ levelOf l ∷ levelsOf o) ⌝ }
+    ensures { λ r. ⌜ AreLevels r (pushedLevel o l) (o .left - 1) (levelOf l ∷ levelsOf o) ⌝ }
 {
     let at = o.left - 1;
     let mode = l.mode;
@@ -111,7 +112,7 @@ pub fn push_level(o: Levels, l: PtrAttributes) -> Levels
 
 // A modifier between the last pointer and what it points to.
 pub fn over_pointee(o: Levels, constant: bool) -> Levels
-    ensures { λ r. ⌜ (r .left ≡ o .left) × (levelsOf r ≡ overPointee constant (levelsOf o)) ⌝ }
+    ensures { λ r. ⌜ AreLevels r (overLevels o constant) (o .left) (overPointee constant (levelsOf o)) ⌝ }
 {
     let at = o.left;
     let mut a = o.items;
@@ -126,7 +127,7 @@ pub fn over_pointee(o: Levels, constant: bool) -> Levels
 }
 
 pub fn no_dimensions() -> Dimensions
-    ensures { λ r. ⌜ (r .left ≡ 32) × (sizesOf r ≡ []) ⌝ }
+    ensures { λ r. ⌜ AreSizes r noDimensions 32 [] ⌝ }
 {
     Dimensions {
         items: [0; 32],
@@ -136,7 +137,7 @@ pub fn no_dimensions() -> Dimensions
 
 pub fn push_dimension(o: Dimensions, bytes: u64) -> Dimensions
     requires { ⌜ (0 < o .left) × (o .left ≤ 32) ⌝ }
-    ensures { λ r. ⌜ (r .left ≡ o .left - 1) × (sizesOf r ≡ bytes ∷ sizesOf o) ⌝ }
+    ensures { λ r. ⌜ AreSizes r (pushedDimension o bytes) (o .left - 1) (bytes ∷ sizesOf o) ⌝ }
 {
     let at = o.left - 1;
     let mut a = o.items;
@@ -146,7 +147,7 @@ pub fn push_dimension(o: Dimensions, bytes: u64) -> Dimensions
 
 // How many levels more may follow.
 pub fn room(o: Dimensions) -> usize
-    ensures { λ r. ⌜ Room o r ⌝ }
+    ensures { λ r. ⌜ r ≡ o .left ⌝ }
 {
     o.left
 }

@@ -1,11 +1,10 @@
--- A packed level is taken apart again.
+-- The definition.
 -- Assumes nothing.
 use borrow.Author.Needs.{needs}
 use native.Mathlib.Omega.{arith}
 use Rattle.context.specs.Context.{flagsByte, modeByte, modeAt, levelAt, levelsOf}
 use mathlib.Core.Path.{_≡_, refl, sym, _∙_}
 use lib.ListN.{length}
-use Rattle.context.proofs.Laws.{unpacked}
 use Rattle.context.proofs.levels.pack.Statement.{statement}
 use Rattle.context.proofs.levels.pack.Tie as tie
 use Rattle.context.proofs.levels.pack.Reads as reads
@@ -23,7 +22,7 @@ add-result : tie.Need-add-result
 add-result c = omega (arith, c .before .flags-byte .ensures .1, c .mode-byte .ensures .1)
 
 returns : tie.Need-returns
-returns c = rw (c .before .flags-byte .ensures .0, c .mode-byte .ensures .0) (unpacked _ _ _)
+returns c = rw (c .before .flags-byte .ensures .0, c .mode-byte .ensures .0)
 
 pub pack-spec : {M : Type 1} → statement M
 pack-spec = tie.close (tie.spec flags-byte-requires mode-byte-requires add-result returns)

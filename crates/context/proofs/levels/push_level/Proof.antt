@@ -2,9 +2,9 @@
 -- Assumes nothing.
 use borrow.Author.Needs.{needs}
 use native.Mathlib.Omega.{arith}
-use Rattle.context.specs.Context.{levelsOf}
-use Rattle.context.proofs.Laws.{levels-push}
-use mathlib.Core.Path.{_≡_, refl}
+use Rattle.context.specs.Context.{levelAt, levelsOf, pushedLevel}
+use Rattle.context.proofs.Laws.{levels-push, unpacked}
+use mathlib.Core.Path.{_≡_, refl, ap, _∙_}
 use lib.ListN.{length}
 use Rattle.context.proofs.levels.push_level.Statement.{statement}
 use Rattle.context.proofs.levels.push_level.Tie as tie
@@ -22,8 +22,8 @@ array-write-a : tie.Need-array-write-a
 array-write-a c = search needs
 
 returns : tie.Need-returns
-unfolding levelsOf
-returns c = let n : length (c .before .before .before .args .o .items) ≡ 96 = search needs in (refl, levels-push (c .before .before .before .args .o .items) (c .before .before .before .args .o .left) (c .before .pack .result) _ (omega (arith, c .before .before .before .pre)) (omega (arith, c .before .before .before .pre)) (c .before .pack .ensures))
+unfolding levelsOf pushedLevel
+returns c = let n : length (c .before .before .before .args .o .items) ≡ 96 = search needs in record { is = rw (c .before .pack .ensures); left = refl; levels = levels-push (c .before .before .before .args .o .items) (c .before .before .before .args .o .left) (c .before .pack .result) _ (omega (arith, c .before .before .before .pre)) (omega (arith, c .before .before .before .pre)) (ap levelAt (c .before .pack .ensures) ∙ unpacked _ _ _) }
 
 pub push-level-spec : {M : Type 1} → statement M
 push-level-spec = tie.close (tie.spec sub-at pack-requires array-write-a returns)

@@ -53,7 +53,7 @@ emit-type-requires : (t : ℕ) → lts.Need-emit-type-requires (claims t) (base-
 emit-type-requires t c κs = (omega (arith, c .before .before .before .before .before .before .before .before .pre), omega (arith, c .before .before .before .before .before .before .before .before .pre))
 
 returns-2 : (t : ℕ) → lts.Need-returns-2 (claims t) (base-at t) base.Post
-returns-2 t c = wrote-by (wrote-marking (sym (c .before .before .before .before .before .before .before .before .before .before .before .before .before .before .before .is-idle .ensures) ∙ c .before .before .before .before .before .before .before .before .before .before .before .before .before .before .if1 .left) (c .before .before .before .before .before .before .emit-ptr .ensures) (c .before .before .marked .ensures)) (text-by _ _ _ _ _ (inner-pointer _ _ _ _ _ _ _ _ (c .before .before .before .before .before .before .before .before .before .before .before .before .t .given .1) (c .before .before .before .before .before .before .before .before .before .no-levels .ensures .1) (c .before .before .before .before .before .before .before .before .aim .ensures .1)))
+returns-2 t c = wrote-by (wrote-marking (sym (c .before .before .before .before .before .before .before .before .before .before .before .before .before .before .before .is-idle .ensures) ∙ c .before .before .before .before .before .before .before .before .before .before .before .before .before .before .if1 .left) (c .before .before .before .before .before .before .emit-ptr .ensures) (c .before .before .marked .ensures)) (text-by _ _ _ _ _ (inner-pointer _ _ _ _ _ _ _ _ (c .before .before .before .before .before .before .before .before .before .before .before .before .t .given .1) (c .before .before .before .before .before .before .before .before .before .no-levels .ensures .levels) (c .before .before .before .before .before .before .before .before .aim .ensures .1)))
 
 returns-3 : (t : ℕ) → lts.Need-returns-3 (claims t) (base-at t) base.Post
 returns-3 t c = wrote-by (wrote-marking (sym (c .before .before .before .before .before .before .before .before .before .before .before .before .before .is-idle .ensures) ∙ c .before .before .before .before .before .before .before .before .before .before .before .before .if1 .left) (c .before .before .before .before .before .before .emit-modifier .ensures) (c .before .before .marked2 .ensures)) (text-by _ _ _ _ _ (inner-modifier _ _ _ _ _ _ (c .before .before .before .before .before .before .before .before .before .before .t2 .given .1)))

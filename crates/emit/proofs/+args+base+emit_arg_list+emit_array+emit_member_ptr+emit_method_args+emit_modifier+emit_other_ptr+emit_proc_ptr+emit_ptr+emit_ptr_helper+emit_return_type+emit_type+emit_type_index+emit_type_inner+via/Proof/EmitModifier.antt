@@ -76,7 +76,7 @@ slice-aggregate-emit-ptr : (t : ℕ) → lts.Need-slice-aggregate-emit-ptr (clai
 slice-aggregate-emit-ptr t c = c .before .before .before .before .before .before .before .before .before .before .before .before .before .before .before .before .before .insert .ensures .1 ∙ sym (pushed-length _ _ _ (c .before .before .before .before .before .before .before .before .before .before .before .before .before .before .before .before .before .insert .ensures .2))
 
 emit-ptr-requires : (t : ℕ) → lts.Need-emit-ptr-requires (claims t) (emit-modifier-at t) emit-modifier.Post
-emit-ptr-requires t c κs = (omega (arith, pushed-length _ _ _ (c .before .before .before .before .before .before .before .before .before .before .before .before .before .before .before .before .before .insert .ensures .2), entry-room _ _ _ (c .before .before .before .before .before .before .before .before .before .before .before .before .before .before .before .before .before .before .before .before .entry .ensures) (c .before .before .before .before .before .before .before .before .before .before .before .before .before .before .before .before .before .before .before .if2 .left), c .before .before .before .before .before .before .before .before .before .before .before .before .before .before .before .before .before .before .before .before .before .before .before .before .before .before .before .pre), (omega (arith, pushed-length _ _ _ (c .before .before .before .before .before .before .before .before .before .before .before .before .before .before .before .before .before .insert .ensures .2), c .before .before .aim .ensures .0, c .before .before .before .before .no-levels .ensures .0), omega (arith, c .before .before .aim .ensures .0, c .before .before .before .before .no-levels .ensures .0)))
+emit-ptr-requires t c κs = (omega (arith, pushed-length _ _ _ (c .before .before .before .before .before .before .before .before .before .before .before .before .before .before .before .before .before .insert .ensures .2), entry-room _ _ _ (c .before .before .before .before .before .before .before .before .before .before .before .before .before .before .before .before .before .before .before .before .entry .ensures) (c .before .before .before .before .before .before .before .before .before .before .before .before .before .before .before .before .before .before .before .if2 .left), c .before .before .before .before .before .before .before .before .before .before .before .before .before .before .before .before .before .before .before .before .before .before .before .before .before .before .before .pre), (omega (arith, pushed-length _ _ _ (c .before .before .before .before .before .before .before .before .before .before .before .before .before .before .before .before .before .insert .ensures .2), c .before .before .aim .ensures .0, c .before .before .before .before .no-levels .ensures .left), omega (arith, c .before .before .aim .ensures .0, c .before .before .before .before .no-levels .ensures .left)))
 
 enum-known-t-3 : (t : ℕ) → lts.Need-enum-known-t-3 (claims t) (emit-modifier-at t) emit-modifier.Post
 enum-known-t-3 t c = search needs
@@ -106,7 +106,7 @@ unread-requires : (t : ℕ) → lts.Need-unread-requires (claims t) (emit-modifi
 unread-requires t c κs = search (c .before .before .before .match, c .before .before .before .before .before .before .before .before .before .before .before .if2, c .before .before .before .before .before .before .before .before .before .before .before .before .before .if1, c .before .before .before .before .before .before .before .before .before .before .before .before .before .before .before .before .before .before .before .pre, c .before .before .before .before .type-at .ensures, c .before .before .before .before .before .before .before .before .before .insert .ensures, c .before .before .before .before .before .before .before .before .before .before .before .before .entry .ensures, c .before .before .before .before .before .before .before .before .before .before .before .before .before .before .is-idle .ensures, needs)
 
 returns-3 : (t : ℕ) → lts.Need-returns-3 (claims t) (emit-modifier-at t) emit-modifier.Post
-returns-3 t c = wrote-by (c .before .before .before .before .before .before .before .before .before .before .before .before .before .before .before .before .before .tick .ensures ▸ c .before .before .emit-ptr .ensures) (modified-pointer _ _ _ _ _ _ _ _ _ (c .before .before .before .before .before .before .before .before .before .before .before .before .before .before .before .before .before .before .before .before .before .before .before .entry .ensures) (c .before .before .before .before .before .before .before .before .before .before .before .before .before .before .before .before .before .before .before .before .before .before .if2 .left) (search (c .before .before .before .before .before .before .before .before .before .before .before .before .before .before .before .before .before .before .before .before .before .before .before .before .before .before .before .before .before .before .good .1 .1 .1 .1 .1 .1 .1 .0, needs)) (c .before .before .before .before .before .before .before .before .before .before .before .before .before .before .before .before .before .before .before .before .insert .ensures .2) (c .before .before .before .before .before .before .before .before .before .before .before .before .before .before .before .type-at .ensures) _ _ _ _ _ (c .before .before .before .before .before .before .before .before .before .before .before .before .before .t .given .1) (c .before .before .before .before .before .before .before .before .before .before .t2 .given .1) (c .before .before .before .before .before .before .either .ensures) (c .before .before .before .before .before .before .before .no-levels .ensures .1) (c .before .before .before .before .before .aim .ensures .1))
+returns-3 t c = wrote-by (c .before .before .before .before .before .before .before .before .before .before .before .before .before .before .before .before .before .tick .ensures ▸ c .before .before .emit-ptr .ensures) (modified-pointer _ _ _ _ _ _ _ _ _ (c .before .before .before .before .before .before .before .before .before .before .before .before .before .before .before .before .before .before .before .before .before .before .before .entry .ensures) (c .before .before .before .before .before .before .before .before .before .before .before .before .before .before .before .before .before .before .before .before .before .before .if2 .left) (search (c .before .before .before .before .before .before .before .before .before .before .before .before .before .before .before .before .before .before .before .before .before .before .before .before .before .before .before .before .before .before .good .1 .1 .1 .1 .1 .1 .1 .0, needs)) (c .before .before .before .before .before .before .before .before .before .before .before .before .before .before .before .before .before .before .before .before .insert .ensures .2) (c .before .before .before .before .before .before .before .before .before .before .before .before .before .before .before .type-at .ensures) _ _ _ _ _ (c .before .before .before .before .before .before .before .before .before .before .before .before .before .t .given .1) (c .before .before .before .before .before .before .before .before .before .before .t2 .given .1) (c .before .before .before .before .before .before .either .ensures) (c .before .before .before .before .before .before .before .no-levels .ensures .levels) (c .before .before .before .before .before .aim .ensures .1))
 
 returns-4 : (t : ℕ) → lts.Need-returns-4 (claims t) (emit-modifier-at t) emit-modifier.Post
 returns-4 t c = wrote-by (c .before .before .before .before .before .before .before .before .before .before .before .before .tick .ensures ▸ c .before .before .emit-primitive .ensures) (modified-primitive _ _ _ _ _ _ _ _ _ (c .before .before .before .before .before .before .before .before .before .before .before .before .before .before .before .before .before .before .entry .ensures) (c .before .before .before .before .before .before .before .before .before .before .before .before .before .before .before .before .before .if2 .left) (search (c .before .before .before .before .before .before .before .before .before .before .before .before .before .before .before .before .before .before .before .before .before .before .before .before .before .good .1 .1 .1 .1 .1 .1 .1 .0, needs)) (c .before .before .before .before .before .before .before .before .before .before .before .before .before .before .before .insert .ensures .2) (c .before .before .before .before .before .before .before .before .before .before .type-at .ensures) _ _ (c .before .before .before .before .before .before .before .before .t .given .1) (c .before .before .before .before .before .t3 .given .1))

@@ -82,7 +82,7 @@ slice-aggregate-via : (t : ℕ) → lts.Need-slice-aggregate-via (claims t) (emi
 slice-aggregate-via t c = c .before .before .before .before .before .before .before .before .before .before .before .before .before .before .before .insert .ensures .1 ∙ sym (pushed-length _ _ _ (c .before .before .before .before .before .before .before .before .before .before .before .before .before .before .before .insert .ensures .2))
 
 via-requires : (t : ℕ) → lts.Need-via-requires (claims t) (emit-ptr-at t) emit-ptr.Post
-via-requires t c κs = (omega (arith, pushed-length _ _ _ (c .before .before .before .before .before .before .before .before .before .before .before .before .before .before .before .insert .ensures .2), entry-room _ _ _ (c .before .before .before .before .before .before .before .before .before .before .before .before .before .before .before .before .before .before .entry .ensures) (c .before .before .before .before .before .before .before .before .before .before .before .before .before .before .before .before .before .if2 .left), c .before .before .before .before .before .before .before .before .before .before .before .before .before .before .before .before .before .before .before .before .before .before .before .before .before .pre), (omega (arith, pushed-length _ _ _ (c .before .before .before .before .before .before .before .before .before .before .before .before .before .before .before .insert .ensures .2), entry-room _ _ _ (c .before .before .before .before .before .before .before .before .before .before .before .before .before .before .before .before .before .before .entry .ensures) (c .before .before .before .before .before .before .before .before .before .before .before .before .before .before .before .before .before .if2 .left), c .before .before .over-pointee .ensures .0, c .before .before .before .before .before .before .before .before .before .before .before .before .before .before .before .before .before .before .before .before .before .before .before .before .before .pre), omega (arith, c .before .before .over-pointee .ensures .0, c .before .before .before .before .before .before .before .before .before .before .before .before .before .before .before .before .before .before .before .before .before .before .before .before .before .pre)))
+via-requires t c κs = (omega (arith, pushed-length _ _ _ (c .before .before .before .before .before .before .before .before .before .before .before .before .before .before .before .insert .ensures .2), entry-room _ _ _ (c .before .before .before .before .before .before .before .before .before .before .before .before .before .before .before .before .before .before .entry .ensures) (c .before .before .before .before .before .before .before .before .before .before .before .before .before .before .before .before .before .if2 .left), c .before .before .before .before .before .before .before .before .before .before .before .before .before .before .before .before .before .before .before .before .before .before .before .before .before .pre), (omega (arith, pushed-length _ _ _ (c .before .before .before .before .before .before .before .before .before .before .before .before .before .before .before .insert .ensures .2), entry-room _ _ _ (c .before .before .before .before .before .before .before .before .before .before .before .before .before .before .before .before .before .before .entry .ensures) (c .before .before .before .before .before .before .before .before .before .before .before .before .before .before .before .before .before .if2 .left), c .before .before .over-pointee .ensures .left, c .before .before .before .before .before .before .before .before .before .before .before .before .before .before .before .before .before .before .before .before .before .before .before .before .before .pre), omega (arith, c .before .before .over-pointee .ensures .left, c .before .before .before .before .before .before .before .before .before .before .before .before .before .before .before .before .before .before .before .before .before .before .before .before .before .pre)))
 
 array-share-prefix-list-3 : (t : ℕ) → lts.Need-array-share-prefix-list-3 (claims t) (emit-ptr-at t) emit-ptr.Post
 array-share-prefix-list-3 t c = omega (arith, c .before .before .before .before .before .before .before .before .before .before .insert .ensures .1, entry-room _ _ _ (c .before .before .before .before .before .before .before .before .before .before .before .before .before .entry .ensures) (search (c .before .match2, c .before .before .before .before .match, c .before .before .before .before .before .before .before .before .before .before .before .before .if2, c .before .before .before .before .before .before .before .before .before .before .before .before .before .before .if1, c .before .before .before .before .before .before .before .before .before .before .before .before .before .before .before .before .before .before .before .before .pre, c .before .before .before .before .before .type-at .ensures, c .before .before .before .before .before .before .before .before .before .before .insert .ensures, c .before .before .before .before .before .before .before .before .before .before .before .before .before .entry .ensures, c .before .before .before .before .before .before .before .before .before .before .before .before .before .before .before .is-idle .ensures, needs)))
@@ -103,7 +103,7 @@ returns-3 : (t : ℕ) → lts.Need-returns-3 (claims t) (emit-ptr-at t) emit-ptr
 returns-3 t c = wrote-by (c .before .before .before .before .before .before .before .before .before .before .before .before .before .before .before .tick .ensures ▸ c .before .before .emit-ptr .ensures) (target-pointer _ _ _ _ _ _ _ _ _ (c .before .before .before .before .before .before .before .before .before .before .before .before .before .before .before .before .before .before .before .before .before .entry .ensures) (c .before .before .before .before .before .before .before .before .before .before .before .before .before .before .before .before .before .before .before .before .if2 .left) (search (c .before .before .before .before .before .before .before .before .before .before .before .before .before .before .before .before .before .before .before .before .before .before .before .before .before .before .before .before .good .1 .1 .1 .1 .1 .1 .1 .0, needs)) (c .before .before .before .before .before .before .before .before .before .before .before .before .before .before .before .before .before .before .insert .ensures .2) (c .before .before .before .before .before .before .before .before .before .before .before .before .before .type-at .ensures) _ _ _ (c .before .before .before .before .before .before .before .before .before .before .before .t .given .1) (c .before .before .before .before .before .before .before .before .t2 .given .1) (c .before .before .before .before .before .aim .ensures .1))
 
 returns-4 : (t : ℕ) → lts.Need-returns-4 (claims t) (emit-ptr-at t) emit-ptr.Post
-returns-4 t c = wrote-by (c .before .before .before .before .before .before .before .before .before .before .before .before .before .before .before .tick .ensures ▸ c .before .before .via .ensures) (target-modifier _ _ _ _ _ _ _ _ _ (c .before .before .before .before .before .before .before .before .before .before .before .before .before .before .before .before .before .before .before .before .before .entry .ensures) (c .before .before .before .before .before .before .before .before .before .before .before .before .before .before .before .before .before .before .before .before .if2 .left) (search (c .before .before .before .before .before .before .before .before .before .before .before .before .before .before .before .before .before .before .before .before .before .before .before .before .before .before .before .before .good .1 .1 .1 .1 .1 .1 .1 .0, needs)) (c .before .before .before .before .before .before .before .before .before .before .before .before .before .before .before .before .before .before .insert .ensures .2) (c .before .before .before .before .before .before .before .before .before .before .before .before .before .type-at .ensures) _ _ _ (c .before .before .before .before .before .before .before .before .before .before .before .t .given .1) (c .before .before .before .before .before .before .before .before .t3 .given .1) (c .before .before .before .before .before .over-pointee .ensures .1))
+returns-4 t c = wrote-by (c .before .before .before .before .before .before .before .before .before .before .before .before .before .before .before .tick .ensures ▸ c .before .before .via .ensures) (target-modifier _ _ _ _ _ _ _ _ _ (c .before .before .before .before .before .before .before .before .before .before .before .before .before .before .before .before .before .before .before .before .before .entry .ensures) (c .before .before .before .before .before .before .before .before .before .before .before .before .before .before .before .before .before .before .before .before .if2 .left) (search (c .before .before .before .before .before .before .before .before .before .before .before .before .before .before .before .before .before .before .before .before .before .before .before .before .before .before .before .before .good .1 .1 .1 .1 .1 .1 .1 .0, needs)) (c .before .before .before .before .before .before .before .before .before .before .before .before .before .before .before .before .before .before .insert .ensures .2) (c .before .before .before .before .before .before .before .before .before .before .before .before .before .type-at .ensures) _ _ _ (c .before .before .before .before .before .before .before .before .before .before .before .t .given .1) (c .before .before .before .before .before .before .before .before .t3 .given .1) (c .before .before .before .before .before .over-pointee .ensures .levels))
 
 returns-5 : (t : ℕ) → lts.Need-returns-5 (claims t) (emit-ptr-at t) emit-ptr.Post
 returns-5 t c = wrote-by (c .before .before .before .before .before .before .before .before .before .before .before .tick .ensures ▸ c .before .before .emit-ptr-helper .ensures) (target-other _ _ _ _ _ _ _ _ _ (c .before .before .before .before .before .before .before .before .before .before .before .before .before .before .before .before .before .entry .ensures) (c .before .before .before .before .before .before .before .before .before .before .before .before .before .before .before .before .if2 .left) (search (c .before .before .before .before .before .before .before .before .before .before .before .before .before .before .before .before .before .before .before .before .before .before .before .before .good .1 .1 .1 .1 .1 .1 .1 .0, needs)) (c .before .before .before .before .before .before .before .before .before .before .before .before .before .before .insert .ensures .2) (c .before .before .before .before .before .before .before .before .before .type-at .ensures) _ (c .before .before .before .before .before .before .before .t .given .1) (c .before .before .before .before .before .match2 .keys3))

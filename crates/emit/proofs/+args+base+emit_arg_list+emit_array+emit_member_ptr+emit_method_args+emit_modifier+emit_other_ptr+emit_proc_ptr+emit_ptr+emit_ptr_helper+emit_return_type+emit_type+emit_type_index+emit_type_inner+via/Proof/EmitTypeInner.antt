@@ -110,7 +110,7 @@ returns-2 : (t : ℕ) → lts.Need-returns-2 (claims t) (emit-type-inner-at t) e
 returns-2 t c = wrote-by (c .before .before .emit-modifier .ensures) (search (walks, c .before .before .before .before .before .before .before .match, c .before .before .before .before .before .before .before .before .before .before .before .before .pre, needs))
 
 returns-3 : (t : ℕ) → lts.Need-returns-3 (claims t) (emit-type-inner-at t) emit-type-inner.Post
-returns-3 t c = wrote-by (c .before .before .emit-ptr .ensures) (inner-pointer _ _ _ _ _ _ _ _ (c .before .before .before .before .before .before .before .before .t3 .given .1) (c .before .before .before .before .before .no-levels .ensures .1) (c .before .before .before .before .aim .ensures .1))
+returns-3 t c = wrote-by (c .before .before .emit-ptr .ensures) (inner-pointer _ _ _ _ _ _ _ _ (c .before .before .before .before .before .before .before .before .t3 .given .1) (c .before .before .before .before .before .no-levels .ensures .levels) (c .before .before .before .before .aim .ensures .1))
 
 returns-4 : (t : ℕ) → lts.Need-returns-4 (claims t) (emit-type-inner-at t) emit-type-inner.Post
 returns-4 t c = wrote-by (c .before .before .before .before .before .before .before .before .before .before .before .emit-return-type .ensures ▸ c .before .before .before .before .before .before .text .ensures ▸ c .before .before .emit-type-index .ensures) (inner-procedure _ _ _ _ _ _ _ _ (c .before .before .before .before .before .before .before .before .before .before .before .before .before .before .before .before .before .t4 .given .1) (c .before .before .before .before .before .before .before .before .before .before .before .before .before .before .is-void .ensures) (c .before .before .before .before .before .before .before .before .before .before .before .before .before .hides-return .ensures))
