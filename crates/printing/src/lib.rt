@@ -1,6 +1,9 @@
 // Prints a sheet's lines on standard output, as many at a time as a lent buffer takes.
 ghost use mathlib.Core.Path.{_≡_};
-ghost use lib.ListN.{length};
+ghost use lib.ListN.{length, drop};
+ghost use Rattle.sheet.specs.Sheet.{fit, sheetLines};
+ghost use Rattle.sheet.specs.Printed.{shown, laidOut, Continues};
+ghost use Rattle.printing.specs.Turns.{told, allTurns, Finished};
 use sheet::Printed;
 
 // Room for the bytes of a file that are read: the first 16,384.
@@ -10,24 +13,31 @@ pub fn room() -> [u8; 16_384]
     [0u8; 16_384]
 }
 
-// The lines that fit, without the first `skip`.
-fn print_some(types: &[u8], ids: &[u8], sheet: &[u8], out: &mut [u8], skip: usize) -> Printed {
+// One turn: the lines that fit, without the first `skip`.
+fn print_some(types: &[u8], ids: &[u8], sheet: &[u8], out: &mut [u8], skip: usize) -> Printed
+    ensures { λ r. ⌜ shown (now (out .exit)) r ≡ laidOut (now (out .entry)) (fit (length (now (out .entry))) (drop skip (sheetLines (now (types .entry)) (now (ids .entry)) (now (sheet .entry))))) ⌝ }
+    ensures { λ _. ⌜ Continues (sheetLines (now (types .entry)) (now (ids .entry)) (now (sheet .entry))) skip (length (now (out .entry))) (fit (length (now (out .entry))) (drop skip (sheetLines (now (types .entry)) (now (ids .entry)) (now (sheet .entry))))) ⌝ }
+{
     let p = sheet::print_sheet(types, ids, sheet, out, skip);
-    let n = files::within(p.bytes, out);
+    let n = p.bytes;
     files::say(&out[..n]);
     p
 }
 
-// All lines of a sheet. A buffer of 4,150 bytes takes at least one line a turn, and no sheet has more lines than bytes.
-pub fn print_lines(types: &[u8], ids: &[u8], sheet: &[u8], out: &mut [u8]) {
+// All lines of a sheet, turn after turn, and how many they are. A buffer that is too short for a line ends the run before that line.
+pub fn print_lines(types: &[u8], ids: &[u8], sheet: &[u8], out: &mut [u8]) -> usize
+    ensures { λ r. ⌜ told (now (out .exit)) r ≡ allTurns (sheetLines (now (types .entry)) (now (ids .entry)) (now (sheet .entry))) (now (out .entry)) ⌝ }
+    ensures { λ r. ⌜ Finished (sheetLines (now (types .entry)) (now (ids .entry)) (now (sheet .entry))) (length (now (out .entry))) r ⌝ }
+{
     let mut skip = 0;
-    let mut turns = sheet.len();
-    while 0 < turns {
+    loop {
         let p = print_some(types, ids, sheet, out, skip);
+        skip += p.lines;
         if !p.more {
-            return;
+            return skip;
         }
-        skip = std::num::wrapping_add_usize(skip, p.lines);
-        turns -= 1;
+        if p.lines == 0 {
+            return skip;
+        }
     }
 }
