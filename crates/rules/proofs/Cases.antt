@@ -14,7 +14,7 @@ use Rattle.streams.specs.Refusal.{numberOf, detailOf}
 use Rattle.streams.specs.declared.refusal.Refusal.the-variants.{Missing}
 use Rattle.codeview.specs.declared.record.PointerMode.the-variants as mode
 use Rattle.codeview.specs.declared.record.ClassKind.the-variants as kind
-use Rattle.streams.specs.Stream.{indexes, header, behind, passed, tiled, checked, recordAt, lookUp, part}
+use Rattle.streams.specs.Stream.{indexes, header, behind, passed, tiled, checked, recordAt, walkFrom, lookUp, part}
 use Rattle.primitives.specs.Primitive.{primitives, firstOf}
 use Rattle.codeview.specs.Record.{bit, names, entries, pointerMode, containing, memberClass, modifierOf, pointerOf, procedureOf, memberFunctionOf, argumentListOf, enumerateOf, arrayOf, classOf, unionOf, enumerationOf, typeOf}
 use Rattle.codeview.specs.Read.{primitiveOf, readType}
@@ -29,7 +29,7 @@ use Rattle.rules.specs.Call as calls
 
 -- A line `unfolding computing` opens every definition that a case computes with.
 unfoldable computing : Unit {0}
-unfolding scopeText functionIdText idText idAlone number field sizeWidth valueWidth widthOf payload leaf zeroFrom nameEnd name indexes header behind passed tiled checked recordAt lookUp part primitives firstOf bit names entries pointerMode containing memberClass modifierOf pointerOf procedureOf memberFunctionOf argumentListOf enumerateOf arrayOf classOf unionOf enumerationOf typeOf primitiveOf readType exec isOpen opening run need walk settings sized flagged nameAt numbersAt matchName typeContents typeReading tableOf digit numeral hex decimal missingMark unimplementedMark functionName primitiveName primitiveSize primitiveText worded classText overPointee sign levels endsSigned bracket brackets sameBytes unread marked valueOf fullLayout fullNamed fullOr result procedureResult returned methodArguments procedureArguments rule.entries namedText typeText alone pointed aimed aimedAgain modifiedText methodText thisPointer methodList baseText elementText fullSize layoutSize namedSize recordSize sizeStep staticMark methodNamed procedureNamed functionText afterRead sameIndex rank entryOf body walked answer within whole overTypes functionReading typeReading₀ sizeReading typeSize sizeAnswer calls.functionText calls.typeText
+unfolding scopeText functionIdText idText idAlone number field sizeWidth valueWidth widthOf payload leaf zeroFrom nameEnd name indexes header behind passed tiled checked recordAt walkFrom lookUp part primitives firstOf bit names entries pointerMode containing memberClass modifierOf pointerOf procedureOf memberFunctionOf argumentListOf enumerateOf arrayOf classOf unionOf enumerationOf typeOf primitiveOf readType exec isOpen opening run need walk settings sized flagged nameAt numbersAt matchName typeContents typeReading tableOf digit numeral hex decimal missingMark unimplementedMark functionName primitiveName primitiveSize primitiveText worded classText overPointee sign levels endsSigned bracket brackets sameBytes unread marked valueOf fullLayout fullNamed fullOr result procedureResult returned methodArguments procedureArguments rule.entries namedText typeText alone pointed aimed aimedAgain modifiedText methodText thisPointer methodList baseText elementText fullSize layoutSize namedSize recordSize sizeStep staticMark methodNamed procedureNamed functionText afterRead sameIndex rank entryOf body walked answer within whole overTypes functionReading typeReading₀ sizeReading typeSize sizeAnswer calls.functionText calls.typeText
 computing = tt
 
 -- Fields, records and a stream, as bytes.

@@ -6,22 +6,24 @@ use native.Mathlib.Omega.{arith}
 use mathlib.Core.Path.{_≡_, refl, sym, _∙_, ap}
 use mathlib.Core.Bool.{Bool, true, false, _&&_}
 use mathlib.Core.List.{List, [], _∷_}
-use lib.ListN.{length, getD, take, drop, drop-of-length-le}
+use lib.ListN.{length, getD, drop, drop-of-length-le}
 use lib.Seq.{drop-cons}
-use lib.Dec.{eqb, leb, ltb}
-use borrow.Author.Tests.{eq-eqb, ne-eqb, lt-ltb, le-ltb, lt-leb, le-leb}
+use lib.Dec.{eqb, leb}
+use borrow.Author.Tests.{eq-eqb, ne-eqb, lt-ltb, le-ltb}
 use denote.Enum.Declared.{tagOf}
 use package.types.Run.{OneOf}
 use Rattle.wire.specs.Field.{pick}
 use Rattle.primitives.specs.Primitive.{primitives, firstOf}
 use Rattle.primitives.specs.declared.PrimitiveKind.{PrimitiveKind}
-use Rattle.streams.specs.Stream.{behind, passed, lookUp}
+use Rattle.streams.specs.Stream.{firstRecord, walkFrom, lookUp}
 use Rattle.streams.specs.declared.refusal.Refusal.{Refusal}
 use Rattle.streams.specs.declared.refusal.Refusal.the-variants.{Missing, CrossModule}
 use Rattle.streams.specs.declared.stream.Stream.{Stream}
-use Rattle.streams.specs.declared.stream.Place.{Place}
-use Rattle.streams.specs.declared.stream.Place.the-variants.{At, Beyond}
-use Rattle.streams.proofs.Walk.{passed-at, passed-beyond, passed-last}
+use Rattle.streams.specs.declared.stream.Cursor.{Cursor}
+use Rattle.streams.specs.declared.stream.CursorRead.{CursorRead}
+use Rattle.streams.specs.declared.stream.CursorRead.the-variants as cursor
+use Rattle.streams.proofs.stream.CursorRead.{the-type as the-cursor}
+use Rattle.streams.proofs.Cursors.{cursorFrom, Gone, Standing, stands, walk-on, gone-on, look-cursor}
 use Rattle.codeview.specs.Read.{primitiveOf, readType, typeIn}
 use Rattle.codeview.specs.declared.record.PrimitiveType.{PrimitiveType}
 use Rattle.codeview.specs.declared.record.ClassType.{ClassType}
@@ -38,7 +40,7 @@ use Rattle.rules.specs.Text.{sameBytes}
 use Rattle.rules.specs.Rules.{fullLayout, fullNamed, fullOr, fullSize}
 use Rattle.sizes.specs.declared.scan.FullRead.{FullRead}
 use Rattle.sizes.specs.declared.scan.FullRead.the-variants.{Full, Other}
-use Rattle.sizes.specs.Sizes.{orElse, FullLayout, FullOf, FullFrom, FullSize, Stands}
+use Rattle.sizes.specs.Sizes.{orElse, FullLayout, FullOf, FullFrom, FullSize}
 
 -- Bytes that are the same, from a place on.
 and-false : (b : Bool) → false ≡ (b && false)
@@ -134,12 +136,8 @@ module _ (s : List ℕ) (t : Stream) (name : List ℕ) where
       by true = first-passes (i % 256) primitives p (Missing i) o
       by false = refused (Missing i) refl o
 
-  pub high-passes : (i : ℕ) → 0x8000_0000 ≤ i → Passes i
-  unfolding readType lookUp
-  high-passes i h o = refused (CrossModule i) (rw (le-ltb i 0x1000 (omega arith), le-leb 0x8000_0000 i h)) o
-
   before-passes : (i : ℕ) → 0x1000 ≤ i → i < t .first → Passes i
-  unfolding readType lookUp
+  unfolding readType lookUp walkFrom
   before-passes i g h o = rw (le-ltb i 0x1000 g, lt-ltb i (t .first) h) (by (leb 0x8000_0000 i))
     where
       by : (b : Bool) → fullOr (typeReading s (pick b (Refused (CrossModule i)) (Refused (Missing i)))) name o ≡ o
@@ -153,32 +151,25 @@ module _ (s : List ℕ) (t : Stream) (name : List ℕ) where
       by (yes d) = low-passes i d
       by (no d) = let g : 0x1000 ≤ i = omega arith in before-passes i g (h g)
 
-  beyond-passes : (i : ℕ) → 0x1000 ≤ i → passed (i - t .first) (take (t .stop) s) 56 At Beyond ≡ Beyond → Passes i
-  unfolding readType lookUp
-  beyond-passes i g h o =
-      rw (le-ltb i 0x1000 g, passed-beyond (i - t .first) (take (t .stop) s) 56 refl h)
-      (by (leb 0x8000_0000 i) (ltb i (t .first)) (leb (t .end) i))
+  -- An index with no record is refused.
+  gone-passes : (i : ℕ) → 0x1000 ≤ i → Gone (cursorFrom s t (firstRecord t) i) → Passes i
+  unfolding readType
+  gone-passes i g h o = by (cursorFrom s t (firstRecord t) i) refl
     where
-      by : (a b c : Bool) → fullOr (typeReading s (pick a (Refused (CrossModule i)) (pick b (Refused (Missing i)) (pick c (Refused (Missing i)) (Refused (Missing i)))))) name o ≡ o
-      by true b c = refused (CrossModule i) refl o
-      by false true c = refused (Missing i) refl o
-      by false false true = refused (Missing i) refl o
-      by false false false = refused (Missing i) refl o
+      by : (r : CursorRead) → cursorFrom s t (firstRecord t) i ≡ r → fullOr (typeReading s (readType s t i)) name o ≡ o
+      by (cursor.At c) e = absurd (h c e)
+      by cursor.Missing e = refused (Missing i) (rw (le-ltb i 0x1000 g) (look-cursor s t i refl e _ _ _)) o
+      by cursor.CrossModule e = refused (CrossModule i) (rw (le-ltb i 0x1000 g) (look-cursor s t i refl e _ _ _)) o
 
-  -- A record that stands at a place is read there.
-  pub read-in : (i at : ℕ) → Stands s t i at → i < t .end → i < 0x8000_0000 → typeIn s t at i ≡ readType s t i
-  unfolding readType lookUp typeIn
-  read-in i at p h g =
-      rw (le-ltb i 0x1000 (p .typed), lt-leb 0x8000_0000 i g, le-ltb i (t .first) (p .inside), lt-leb (t .end) i h)
-      (sym (passed-at (i - t .first) (take (t .stop) s) 56 (p .place) at refl _ _))
+  -- A record is read where its cursor is.
+  read-in : (i : ℕ) (c : Cursor) → 0x1000 ≤ i → cursorFrom s t (firstRecord t) i ≡ cursor.At c → typeIn s t (c .at) i ≡ readType s t i
+  unfolding readType typeIn
+  read-in i c g e = rw (le-ltb i 0x1000 g) (sym (look-cursor s t i refl e _ _ _))
 
 -- The size by so many records from an index on.
 module _ (types : List ℕ) (stream : Stream) (name : List ℕ) (own : ℕ) (c : Settings) (ids : List ℕ) (u : Stream) where
   abbrev size : ℕ → ℕ → ℕ
   size n i = fullSize c (tableOf types stream ids u) n i name own
-
-  abbrev records : List ℕ
-  records = take (stream .stop) types
 
   none-left : (n i : ℕ) → n ≡ 0 → own ≡ size n i
   unfolding fullSize
@@ -193,21 +184,12 @@ module _ (types : List ℕ) (stream : Stream) (name : List ℕ) (own : ℕ) (c :
       let e : stream .end - i ≡ suc (stream .end - (i + 1)) = omega arith in
       rw e (one-more (stream .end - (i + 1)) i)
 
-  pub all-high : (n i : ℕ) → 0x8000_0000 ≤ i → own ≡ size n i
-  all-high zero i h = none-left 0 i refl
-  all-high (suc n) i h = all-high n (i + 1) (omega arith) ∙ sym (one-more n i ∙ high-passes types stream name i h (size n (i + 1)))
-
-  -- Where a walk is beyond the records, it stays there.
-  stays : (i : ℕ) → stream .first ≤ i → passed (i - stream .first) records 56 At Beyond ≡ Beyond → passed (i + 1 - stream .first) records 56 At Beyond ≡ Beyond
-  stays i h g =
-      let e : i + 1 - stream .first ≡ suc (i - stream .first) = omega arith in
-      rw e (passed-last (i - stream .first) records 56 At Beyond ∙ passed-beyond (i - stream .first) records 56 refl g (λ at. behind records at At Beyond) Beyond)
-
-  pub all-beyond : (n i : ℕ) → 0x1000 ≤ i → stream .first ≤ i → passed (i - stream .first) records 56 At Beyond ≡ Beyond → own ≡ size n i
-  all-beyond zero i l h g = none-left 0 i refl
-  all-beyond (suc n) i l h g =
-      all-beyond n (i + 1) (omega arith) (omega arith) (stays i h g)
-      ∙ sym (one-more n i ∙ beyond-passes types stream name i l g (size n (i + 1)))
+  -- Behind an index with no record none decides.
+  all-gone : (n i : ℕ) → 0x1000 ≤ i → stream .first ≤ i → Gone (cursorFrom types stream (firstRecord stream) i) → own ≡ size n i
+  all-gone zero i l h g = none-left 0 i refl
+  all-gone (suc n) i l h g =
+      all-gone n (i + 1) (omega arith) (omega arith) (gone-on types stream (firstRecord stream) i h g)
+      ∙ sym (one-more n i ∙ gone-passes types stream name i l g (size n (i + 1)))
 
   -- The indexes before the first record are passed over.
   skip : (n i from : ℕ) → i + n ≡ stream .end → i ≤ from → ((k : ℕ) → i ≤ k → k < from → 0x1000 ≤ k → k < stream .first) → size (stream .end - from) from ≡ size n i
@@ -221,60 +203,80 @@ module _ (types : List ℕ) (stream : Stream) (name : List ℕ) (own : ℕ) (c :
   from-first : (i m from : ℕ) → i < stream .end → m ≡ max (i + 1) 0x1000 → from ≡ max m (stream .first) → size (stream .end - from) from ≡ size (stream .end - (i + 1)) (i + 1)
   from-first i m from h d e = skip (stream .end - (i + 1)) (i + 1) from (omega arith) (omega arith) (λ k a b l. omega arith)
 
+-- Where a scan for a forward reference is: what holds from its index on holds from the reference on.
+pub record Scanning (types : List ℕ) (stream : Stream) (name : List ℕ) (own index : ℕ) (r : CursorRead) : Type 0 where
+  pub i : ℕ
+  pub typed : 0x1000 ≤ i
+  pub inside : stream .first ≤ i
+  pub read : r ≡ cursorFrom types stream (firstRecord stream) i
+  pub holds : (v : ℕ) → FullFrom types stream i name own v → FullSize types stream index name own v
+
+-- An answer that is no cursor.
+pub none-at : (r : CursorRead) → OneOf (1 ∷ 2 ∷ []) (tagOf the-cursor r) → Gone r
+none-at (cursor.At c) n = absurd (miss (1 ∷ 2 ∷ []) 0 tt n)
+none-at cursor.Missing n = λ c e. let w : _≡_ {A = ℕ} 0 1 = cc in omega arith
+none-at cursor.CrossModule n = λ c e. let w : _≡_ {A = ℕ} 0 1 = cc in omega arith
+
+-- How many indexes are left to a cursor.
+unfoldable pub leftOf : Stream → CursorRead → ℕ
+leftOf t (cursor.At c) = t .end - c .index
+leftOf t cursor.Missing = 0
+leftOf t cursor.CrossModule = 0
+
 -- The steps of the scan.
-module _ (types : List ℕ) (stream : Stream) (name : List ℕ) (own : ℕ) where
-  pub from-none : (i : ℕ) → stream .end ≤ i → FullFrom types stream i name own own
-  from-none i h = record { is = λ c ids u. none-left types stream name own c ids u (stream .end - i) i (omega arith) }
+module _ (types : List ℕ) (stream : Stream) (name : List ℕ) (own index : ℕ) where
+  pub scan-none : stream .end ≤ index → FullSize types stream index name own own
+  scan-none h = record { is = λ c ids u. none-left types stream name own c ids u (stream .end - (index + 1)) (index + 1) (omega arith) }
 
-  pub from-high : (i : ℕ) → 0x8000_0000 ≤ i → FullFrom types stream i name own own
-  from-high i h = record { is = λ c ids u. all-high types stream name own c ids u (stream .end - i) i h }
+  -- It starts at the first index after the reference that can be a record's.
+  pub scan-first : index < stream .end → {m from : ℕ} → m ≡ max (index + 1) 0x1000 → from ≡ max m (stream .first) → {r : CursorRead} → r ≡ cursorFrom types stream (firstRecord stream) from → Scanning types stream name own index r
+  scan-first h {m} {from} d e b =
+      record {
+        i = from;
+        typed = omega arith;
+        inside = omega arith;
+        read = b;
+        holds = λ v f. record { is = λ c ids u. f .is c ids u ∙ from-first types stream name own c ids u index m from h d e };
+      }
 
-  module _ (i at : ℕ) (p : Stands types stream i at) where
-    -- Behind the record at the place there is no other.
-    pub from-beyond : {rs : List ℕ} → rs ≡ take (stream .stop) types → {r : Place} → r ≡ behind rs at At Beyond → r ≡ Beyond → FullFrom types stream (i + 1) name own own
-    from-beyond {rs} d b k = record { is = λ c ids u. all-beyond types stream name own c ids u (stream .end - (i + 1)) (i + 1) (omega (arith, p .typed)) (omega (arith, p .inside)) gone }
-      where
-        gone : passed (i + 1 - stream .first) (take (stream .stop) types) 56 At Beyond ≡ Beyond
-        gone =
-            let l = p .inside in
-            let e : i + 1 - stream .first ≡ suc (i - stream .first) = omega arith in
-            rw e (passed-last (i - stream .first) (take (stream .stop) types) 56 At Beyond ∙ passed-at (i - stream .first) (take (stream .stop) types) 56 (p .place) at refl (λ at. behind (take (stream .stop) types) at At Beyond) Beyond ∙ rw (← d) (sym b ∙ k))
+  module _ {r : CursorRead} (w : Scanning types stream name own index r) where
+    pub scan-over : Gone r → FullSize types stream index name own own
+    scan-over g = w .holds own (record { is = λ c ids u. all-gone types stream name own c ids u (stream .end - w .i) (w .i) (w .typed) (w .inside) (λ d e. g d (w .read ∙ e)) })
 
-    pub stands-next : {rs : List ℕ} → rs ≡ take (stream .stop) types → {r : Place} → r ≡ behind rs at At Beyond → (next : ℕ) → r ≡ At next → Stands types stream (i + 1) next
-    stands-next {rs} d b next k = record { typed = omega (arith, p .typed); inside = omega (arith, p .inside); place = there }
-      where
-        there : At next ≡ passed (i + 1 - stream .first) (take (stream .stop) types) 56 At Beyond
-        there =
-            let l = p .inside in
-            let e : i + 1 - stream .first ≡ suc (i - stream .first) = omega arith in
-            rw e (sym (passed-last (i - stream .first) (take (stream .stop) types) 56 At Beyond ∙ passed-at (i - stream .first) (take (stream .stop) types) 56 (p .place) at refl (λ at. behind (take (stream .stop) types) at At Beyond) Beyond ∙ rw (← d) (sym b ∙ k)))
+    module _ {c : Cursor} (k : r ≡ cursor.At c) where
+      at : Standing stream (firstRecord stream) (w .i) c
+      at = stands types stream (firstRecord stream) (w .i) (w .read) k
 
-    module _ (h : i < stream .end) (g : i < 0x8000_0000) {t : TypeRead} (e : t ≡ typeIn types stream at i) {r : FullRead} (f : FullOf types t name r) where
-      here : (c : Settings) (ids : List ℕ) (u : Stream) → orElse r (fullSize c (tableOf types stream ids u) (stream .end - (i + 1)) (i + 1) name own) ≡ fullSize c (tableOf types stream ids u) (stream .end - i) i name own
-      here c ids u = f .is _ ∙ rw (e ∙ read-in types stream name i at p h g) (sym (one-of types stream name own c ids u i h))
+      pub scan-less : {r₁ : CursorRead} → r₁ ≡ cursorFrom types stream c (c .index + 1) → leftOf stream r₁ < leftOf stream r
+      unfolding leftOf
+      scan-less {r₁} b = rw k (go r₁ b)
+        where
+          go : (r : CursorRead) → r ≡ cursorFrom types stream c (c .index + 1) → leftOf stream r < stream .end - c .index
+          go (cursor.At d) b = let x = stands types stream c (c .index + 1) b refl in let y = at in omega (arith, x .index-is, x .inside)
+          go cursor.Missing b = let y = at in omega (arith, y .index-is, y .inside)
+          go cursor.CrossModule b = let y = at in omega (arith, y .index-is, y .inside)
 
-      pub from-full : (v : ℕ) → r ≡ Full v → FullFrom types stream i name own v
-      unfolding orElse
-      from-full v k = record { is = λ c ids u. let q : orElse r (fullSize c (tableOf types stream ids u) (stream .end - (i + 1)) (i + 1) name own) ≡ v = rw k in sym q ∙ here c ids u }
+      module _ {t : TypeRead} (e : t ≡ typeIn types stream (c .at) (c .index)) {q : FullRead} (f : FullOf types t name q) where
+        abbrev later : Settings → List ℕ → Stream → ℕ
+        later s ids u = fullSize s (tableOf types stream ids u) (stream .end - (w .i + 1)) (w .i + 1) name own
 
-      pub from-other : (v : ℕ) → r ≡ Other → FullFrom types stream (i + 1) name own v → FullFrom types stream i name own v
-      unfolding orElse
-      from-other v k z = record { is = λ c ids u. let q : orElse r (fullSize c (tableOf types stream ids u) (stream .end - (i + 1)) (i + 1) name own) ≡ fullSize c (tableOf types stream ids u) (stream .end - (i + 1)) (i + 1) name own = rw k in z .is c ids u ∙ sym q ∙ here c ids u }
+        here : (s : Settings) (ids : List ℕ) (u : Stream) → orElse q (later s ids u) ≡ fullSize s (tableOf types stream ids u) (stream .end - w .i) (w .i) name own
+        here s ids u =
+            let z : t ≡ readType types stream (w .i) = e ∙ ap (λ (n : ℕ). typeIn types stream (c .at) n) (at .index-is) ∙ read-in types stream name (w .i) c (w .typed) (sym (w .read) ∙ k) in
+            let y : fullOr (typeReading types t) name (later s ids u) ≡ fullSize s (tableOf types stream ids u) (stream .end - w .i) (w .i) name own = rw z (sym (one-of types stream name own s ids u (w .i) (at .inside))) in
+            f .is (later s ids u) ∙ y
 
-  -- The scan starts at the first index after the reference that can be a record's.
-  module _ (i : ℕ) where
-    pub size-none : stream .end ≤ i → FullSize types stream i name own own
-    size-none h = from-none (i + 1) (omega arith)
+        pub scan-full : (v : ℕ) → q ≡ Full v → FullSize types stream index name own v
+        unfolding orElse
+        scan-full v z = w .holds v (record { is = λ s ids u. let y : orElse q (later s ids u) ≡ v = rw z in sym y ∙ here s ids u })
 
-    module _ (h : i < stream .end) {m from : ℕ} (d : m ≡ max (i + 1) 0x1000) (e : from ≡ max m (stream .first)) where
-      pub size-from : (v : ℕ) → FullFrom types stream from name own v → FullSize types stream i name own v
-      size-from v f = record { is = λ c ids u. f .is c ids u ∙ from-first types stream name own c ids u i m from h d e }
-
-      module _ {rs : List ℕ} (g : rs ≡ take (stream .stop) types) {r : Place} (b : r ≡ passed (from - stream .first) rs 56 At Beyond) where
-        pub size-stands : (at : ℕ) → r ≡ At at → Stands types stream from at
-        size-stands at k = record { typed = omega arith; inside = omega arith; place = rw (← g) (sym k ∙ b) }
-
-        pub size-beyond : r ≡ Beyond → FullSize types stream i name own own
-        size-beyond k =
-            size-from own
-            (record { is = λ c ids u. all-beyond types stream name own c ids u (stream .end - from) from (omega arith) (omega arith) (rw (← g) (sym b ∙ k)) })
+        pub scan-next : q ≡ Other → {r₁ : CursorRead} → r₁ ≡ cursorFrom types stream c (c .index + 1) → Scanning types stream name own index r₁
+        unfolding orElse
+        scan-next z b =
+            record {
+              i = w .i + 1;
+              typed = let h = w .typed in omega arith;
+              inside = let h = w .inside in omega arith;
+              read = b ∙ walk-on types stream (firstRecord stream) (w .i) (w .read) k (c .index + 1) (omega (arith, at .index-is)) cursor.At cursor.Missing cursor.CrossModule ∙ ap (λ (n : ℕ). cursorFrom types stream (firstRecord stream) (n + 1)) (at .index-is);
+              holds = λ v g. w .holds v (record { is = λ s ids u. let y : orElse q (later s ids u) ≡ later s ids u = rw z in g .is s ids u ∙ sym y ∙ here s ids u });
+            }

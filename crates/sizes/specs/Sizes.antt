@@ -1,14 +1,11 @@
 -- Sizes as the code answers them, beside the rules' reading of them. The reading of a size depends neither on the ids nor on what is held.
-use Prim.Native.Nat.{ℕ, _+_, _-_, _≤_}
+use Prim.Native.Nat.{ℕ, _+_, _-_}
 use mathlib.Core.Path.{_≡_}
 use mathlib.Core.Bool.{Bool, _&&_, not}
 use mathlib.Core.List.{List, [], _∷_}
-use lib.ListN.{take}
 use Rattle.wire.specs.Field.{pick}
-use Rattle.streams.specs.Stream.{passed}
 use Rattle.streams.specs.declared.refusal.Refusal.{Refusal}
 use Rattle.streams.specs.declared.stream.Stream.{Stream}
-use Rattle.streams.specs.declared.stream.Place.the-variants.{At, Beyond}
 use Rattle.codeview.specs.declared.record.TypeData.{TypeData}
 use Rattle.codeview.specs.declared.record.TypeRead.{TypeRead}
 use Rattle.codeview.specs.declared.record.TypeRead.the-variants.{Good}
@@ -66,9 +63,3 @@ pub record FullOf (types : List ℕ) (t : TypeRead) (name : List ℕ) (r : FullR
 
 abbrev pub FullData : List ℕ → TypeData → List ℕ → FullRead → Type 0
 FullData types t name r = FullOf types (Good t) name r
-
--- The record of an index stands at a place.
-pub record Stands (types : List ℕ) (t : Stream) (i at : ℕ) : Type 0 where
-  pub typed : 0x1000 ≤ i
-  pub inside : t .first ≤ i
-  pub place : At at ≡ passed (i - t .first) (take (t .stop) types) 56 At Beyond

@@ -3,17 +3,16 @@ ghost use mathlib.Core.Path.{_≡_};
 ghost use Prim.Native.Nat.{max};
 ghost use Rattle.rules.specs.Text.{sameBytes};
 ghost use Rattle.rules.specs.Record.{matchName};
-ghost use Rattle.sizes.specs.Sizes.{Stands, FullLayout, FullOf, FullData, FullFrom, FullSize};
+ghost use Rattle.sizes.specs.Sizes.{FullLayout, FullOf, FullData, FullSize};
 use codeview::index::TypeIndex;
 use codeview::record::TypeData;
 use codeview::record::TypeRead;
 use codeview::record::UniqueName;
 use codeview::types::type_in;
-use streams::stream::Place;
+use streams::stream::CursorRead;
 use streams::stream::Stream;
-use streams::stream::behind_record;
-use streams::stream::behind_records;
-use streams::stream::records_of;
+use streams::stream::cursor_at;
+use streams::stream::next_cursor;
 use wire::name::Name;
 use writers::names::name_of;
 
@@ -91,31 +90,6 @@ fn full_read(types: &[u8], t: TypeRead, name: &[u8]) -> FullRead
     }
 }
 
-// The records from an index on, whose first one stands at a place.
-fn full_from(types: &[u8], stream: Stream, start: u32, place: usize, name: &[u8], own: u64) -> u64
-    requires { ⌜ Stands (now types) stream start place ⌝ }
-    ensures { λ r. ⌜ FullFrom (now (types .entry)) stream start (now (name .entry)) own r ⌝ }
-{
-    let records = records_of(types, stream);
-    let mut at = place;
-    let mut i = start;
-    while i < stream.end {
-        if 0x8000_0000 <= i {
-            return own;
-        }
-        let t = type_in(types, stream, at, TypeIndex(i));
-        if let FullRead::Full(size) = full_read(types, t, name) {
-            return size;
-        }
-        let Place::At(next) = behind_record(records, at) else {
-            return own;
-        };
-        at = next;
-        i += 1;
-    }
-    own
-}
-
 fn later(a: u32, b: u32) -> u32
     ensures { λ r. ⌜ r ≡ max a b ⌝ }
 {
@@ -138,9 +112,15 @@ pub fn get_size_for_forward_reference(
         return own;
     }
     let start = later(later(i + 1, 0x1000), first);
-    let records = records_of(types, stream);
-    let Place::At(at) = behind_records(records, 56, start - first) else {
-        return own;
-    };
-    full_from(types, stream, start, at, name, own)
+    let mut at = cursor_at(types, stream, start);
+    loop {
+        let CursorRead::At(c) = at else {
+            return own;
+        };
+        let t = type_in(types, stream, c.at, TypeIndex(c.index));
+        if let FullRead::Full(size) = full_read(types, t, name) {
+            return size;
+        }
+        at = next_cursor(types, stream, c);
+    }
 }

@@ -1,6 +1,6 @@
 -- Laws of the walk over records: what its answer says, and where it stays. Assumes nothing.
 use Prim.Native.Nat.{ℕ, zero, suc, _+_, _-_, _≤_, _<_, min}
-use native.Mathlib.Nat.{not-suc-le-zero, zero-min, suc-min-suc}
+use native.Mathlib.Nat.{not-suc-le-zero, zero-add, suc-add, zero-min, suc-min-suc}
 use native.Mathlib.Omega.{arith}
 use mathlib.Core.Path.{_≡_, refl, sym, _∙_, ap, fun-ext}
 use mathlib.Core.Bool.{Bool, true, false}
@@ -8,11 +8,12 @@ use mathlib.Core.List.{List, [], _∷_}
 use lib.ListN.{length, take, drop, length-take, length-drop}
 use lib.Seq.{take-nil}
 use lib.Dec.{leb, ltb, eqb}
-use borrow.Author.Tests.{leb-true}
+use borrow.Author.Tests.{leb-true, leb-false, ltb-false}
 use Rattle.wire.specs.Field.{pick, number, field}
 use Rattle.wire.proofs.Laws.{map-pick, map-field, all-field}
-use Rattle.streams.specs.Stream.{indexes, header, behind, passed, recordAt, lookUp}
+use Rattle.streams.specs.Stream.{indexes, header, behind, passed, recordAt, firstRecord, walkFrom, lookUp}
 use Rattle.streams.specs.declared.stream.Stream.{Stream}
+use Rattle.streams.specs.declared.stream.Cursor.{Cursor}
 use Rattle.streams.specs.declared.stream.Head.{Head}
 use Rattle.streams.specs.declared.stream.Head.the-variants as head
 use Rattle.streams.specs.declared.stream.Place.{Place}
@@ -72,20 +73,22 @@ module _ {A B : Type 0} (f : A → B) (s : List ℕ) where
   unfolding header indexes
   map-header k z = simp (map-pick f, map-field f)
 
+pub map-walk : {A B : Type 0} (f : A → B) (s : List ℕ) (t : Stream) (from : Cursor) (i : ℕ) (k : Cursor → A) (m x : A) → f (walkFrom s t from i k m x) ≡ walkFrom s t from i (λ c. f (k c)) (f m) (f x)
+unfolding walkFrom
+map-walk {A} {B} f s t from i k m x =
+    map-pick f (leb 0x8000_0000 i) x _
+    ∙ ap (λ (y : B). pick (leb 0x8000_0000 i) (f x) y)
+    (map-pick f (ltb i (from .index)) m _
+    ∙ ap (λ (y : B). pick (ltb i (from .index)) (f m) y)
+    (map-pick f (leb (t .end) i) m _
+    ∙ ap (λ (y : B). pick (leb (t .end) i) (f m) y)
+    (map-passed f (take (t .stop) s) (i - from .index) (from .at) (λ at. k (record { index = i; at = at })) m)))
+
 map-look : {A B : Type 0} (f : A → B) (s : List ℕ) (t : Stream) (i : ℕ) (k : ℕ → ℕ → ℕ → A) (m x : A) → f (lookUp s t i k m x) ≡ lookUp s t i (λ a b c. f (k a b c)) (f m) (f x)
 unfolding lookUp
 map-look {A} {B} f s t i k m x =
-    map-pick f (leb 0x8000_0000 i) x _
-    ∙ ap (λ (y : B). pick (leb 0x8000_0000 i) (f x) y)
-    (map-pick f (ltb i (t .first)) m _
-    ∙ ap (λ (y : B). pick (ltb i (t .first)) (f m) y)
-    (map-pick f (leb (t .end) i) m _
-    ∙ ap (λ (y : B). pick (leb (t .end) i) (f m) y)
-    (map-passed f r (i - t .first) 56 (λ at. recordAt r at k m) m
-    ∙ ap (λ (g : ℕ → B). passed (i - t .first) r 56 g (f m)) (fun-ext (λ at. map-record f r at k m)))))
-  where
-    r : List ℕ
-    r = take (t .stop) s
+    map-walk f s t (firstRecord t) i (λ c. recordAt (take (t .stop) s) (c .at) k m) m x
+    ∙ ap (λ (g : Cursor → B). walkFrom s t (firstRecord t) i g (f m) (f x)) (fun-ext (λ c. map-record f (take (t .stop) s) (c .at) k m))
 
 -- What follows, said of the answer.
 abbrev by : {A : Type 0} → Place → (ℕ → A) → A → A
@@ -129,35 +132,40 @@ passed-more (suc n) s at k z h =
     let e : suc n - 1 ≡ n = omega arith in
     simp e (more n s at k z)
 
--- A walk of one record more ends with that record.
-pub passed-last : {A : Type 0} (n : ℕ) (s : List ℕ) (at : ℕ) (k : ℕ → A) (z : A) → passed (suc n) s at k z ≡ passed n s at (λ at. behind s at k z) z
+-- A walk over two runs of records is one walk.
+pub passed-on : {A : Type 0} (m n : ℕ) (s : List ℕ) (at : ℕ) (k : ℕ → A) (z : A) → passed (m + n) s at k z ≡ passed m s at (λ at. passed n s at k z) z
 unfolding passed
-passed-last zero s at k z = refl
-passed-last {A} (suc n) s at k z = ap (λ (g : ℕ → A). behind s at g z) (fun-ext (λ next. passed-last n s next k z))
+passed-on zero n s at k z = simp zero-add
+passed-on {A} (suc m) n s at k z = rw suc-add (ap (λ (g : ℕ → A). behind s at g z) (fun-ext (λ next. passed-on m n s next k z)))
 
--- Whatever holds of every answer that a record inside the stream can give, and of the two others, holds of what follows from an index.
-lookUp-all : {A : Type 0} (P : A → Type 0) (s : List ℕ) (t : Stream) (i : ℕ) (k : ℕ → ℕ → ℕ → A) (m x : A) → ((kind start end : ℕ) → start ≤ end → end ≤ length s → P (k kind start end)) → P m → P x → P (lookUp s t i k m x)
-unfolding lookUp
-lookUp-all P s t i k m x f p q = go (leb 0x8000_0000 i) (ltb i (t .first)) (leb (t .end) i)
+-- Whatever holds of every answer that an index of the stream can give, and of the two others, holds of what follows from a walk.
+pub walk-all : {A : Type 0} (P : A → Type 0) (s : List ℕ) (t : Stream) (from : Cursor) (i : ℕ) (k : Cursor → A) (m x : A) → ((at : ℕ) → from .index ≤ i → i < t .end → i < 0x8000_0000 → P (k (record { index = i; at = at }))) → P m → P x → P (walkFrom s t from i k m x)
+unfolding walkFrom
+walk-all P s t from i k m x f p q = go (leb 0x8000_0000 i) (ltb i (from .index)) (leb (t .end) i) refl refl refl
   where
-    walked : P (passed (i - t .first) (take (t .stop) s) 56 (λ at. recordAt (take (t .stop) s) at k m) m)
-    walked =
-        passed-all P (take (t .stop) s) (i - t .first) 56 (λ at. recordAt (take (t .stop) s) at k m) m
-        (λ at. recordAt-all P (take (t .stop) s) at k m (λ kind start end h j. f kind start end h (omega (arith, length-take (t .stop) s))) p) p
-
-    go : (a b c : Bool) → P (pick a x (pick b m (pick c m (passed (i - t .first) (take (t .stop) s) 56 (λ at. recordAt (take (t .stop) s) at k m) m))))
-    go true b c = q
-    go false true c = p
-    go false false true = p
-    go false false false = walked
+    go : (a b c : Bool) → leb 0x8000_0000 i ≡ a → ltb i (from .index) ≡ b → leb (t .end) i ≡ c → P (pick a x (pick b m (pick c m (passed (i - from .index) (take (t .stop) s) (from .at) (λ at. k (record { index = i; at = at })) m))))
+    go true b c d e h = q
+    go false true c d e h = p
+    go false false true d e h = p
+    go false false false d e h =
+        passed-all P (take (t .stop) s) (i - from .index) (from .at) (λ at. k (record { index = i; at = at })) m
+        (λ at. f at (ltb-false i (from .index) e) (leb-false (t .end) i h) (leb-false 0x8000_0000 i d)) p
 
 -- The fields of a record that was looked up lie inside the stream.
 pub look-within : (s : List ℕ) (t : Stream) (i : ℕ) {r : Found} → r ≡ lookUp s t i Record Missing CrossModule → (kind start end : ℕ) → r ≡ Record kind start end → (start ≤ end) × (end ≤ length s)
+unfolding lookUp
 look-within s t i e kind start end h =
-    lookUp-all (λ (r : Found). r ≡ Record kind start end → (start ≤ end) × (end ≤ length s)) s t i Record Missing CrossModule
-    (λ kd a b i j q. let v : a ≡ start = cc in let w : b ≡ end = cc in (omega arith, omega arith))
-    (λ q. let w : _≡_ {A = ℕ} 0 1 = cc in absurd (omega arith))
+    walk-all Inside s t (firstRecord t) i (λ c. recordAt (take (t .stop) s) (c .at) Record Missing) Missing CrossModule
+    (λ at a b c. recordAt-all Inside (take (t .stop) s) at Record Missing
+    (λ kd a b i j q. let v : a ≡ start = cc in let w : b ≡ end = cc in (omega arith, omega (arith, length-take (t .stop) s)))
+    none) none
     (λ q. let w : _≡_ {A = ℕ} 0 1 = cc in absurd (omega arith)) (sym e ∙ h)
+  where
+    Inside : Found → Type 0
+    Inside r = r ≡ Record kind start end → (start ≤ end) × (end ≤ length s)
+
+    none : Inside Missing
+    none q = let w : _≡_ {A = ℕ} 0 1 = cc in absurd (omega arith)
 
 -- Whatever holds of every answer that a whole header can give, and of the answer to a broken one, holds of what follows from a header.
 module _ {A : Type 0} (P : A → Type 0) (s : List ℕ) (k : ℕ → ℕ → ℕ → A) (z : A) (f : (first end stop : ℕ) → first ≤ end → stop ≤ length s → P (k first end stop)) (p : P z) where

@@ -8,6 +8,7 @@ use Rattle.wire.specs.Field.{pick, field}
 use Rattle.streams.specs.declared.refusal.StreamKind.{StreamKind}
 use Rattle.streams.specs.declared.refusal.Refusal.the-variants.{Header, Tiling}
 use Rattle.streams.specs.declared.stream.Stream.{Stream}
+use Rattle.streams.specs.declared.stream.Cursor.{Cursor}
 use Rattle.streams.specs.declared.stream.StreamCheck.{StreamCheck}
 use Rattle.streams.specs.declared.stream.StreamCheck.the-variants.{Good, Refused}
 
@@ -63,16 +64,26 @@ checked which s =
 unfoldable pub recordAt : {A : Type 0} → List ℕ → ℕ → (ℕ → ℕ → ℕ → A) → A → A
 recordAt s at found missing = behind s at (λ next. field 2 s (at + 2) (λ kind. found kind (at + 4) next) missing) missing
 
--- What follows from an index: its record is handed on; 8 for one that is not in the stream, 6 for one with bit 31 set.
-unfoldable pub lookUp : {A : Type 0} → List ℕ → Stream → ℕ → (ℕ → ℕ → ℕ → A) → A → A → A
-lookUp s t index found missing crossModule =
+-- What follows from an index, by the walk from a record that stands before it: the index is handed on with the place of its record; 8 for one that is not in
+-- the stream, 6 for one with bit 31 set.
+unfoldable pub walkFrom : {A : Type 0} → List ℕ → Stream → Cursor → ℕ → (Cursor → A) → A → A → A
+walkFrom s t from index found missing crossModule =
     pick (leb 0x8000_0000 index)
     crossModule
-    (pick (ltb index (t .first))
+    (pick (ltb index (from .index))
     missing
     (pick (leb (t .end) index)
     missing
-    (passed (index - t .first) (take (t .stop) s) 56 (λ at. recordAt (take (t .stop) s) at found missing) missing)))
+    (passed (index - from .index) (take (t .stop) s) (from .at) (λ at. found (record { index = index; at = at })) missing)))
+
+-- The first record stands behind the header.
+abbrev pub firstRecord : Stream → Cursor
+firstRecord t = record { index = t .first; at = 56 }
+
+-- What follows from an index: its record is handed on.
+unfoldable pub lookUp : {A : Type 0} → List ℕ → Stream → ℕ → (ℕ → ℕ → ℕ → A) → A → A → A
+lookUp s t index found missing crossModule =
+    walkFrom s t (firstRecord t) index (λ c. recordAt (take (t .stop) s) (c .at) found missing) missing crossModule
 
 -- The bytes from a place up to another.
 unfoldable pub part : List ℕ → ℕ → ℕ → List ℕ

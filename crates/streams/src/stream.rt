@@ -1,10 +1,11 @@
 // A stream: the check of its header and of its records, and the way from an index to its record. Nothing else walks a stream.
 ghost use mathlib.Core.Path.{_≡_};
-ghost use Prim.Native.Nat.{_≤_, min};
+ghost use Prim.Native.Nat.{_+_, _≤_, min};
 ghost use lib.ListN.{length, take};
-ghost use Rattle.streams.specs.Stream.{indexes, header, behind, passed, tiled, checked, recordAt, lookUp};
+ghost use Rattle.streams.specs.Stream.{indexes, header, behind, passed, tiled, checked, recordAt, firstRecord, walkFrom, lookUp};
 ghost use Rattle.streams.specs.declared.stream.Head.the-variants as head;
 ghost use Rattle.streams.specs.declared.stream.Place.the-variants.{At, Beyond};
+ghost use Rattle.streams.specs.declared.stream.CursorRead.the-variants as cursor;
 ghost use Rattle.streams.specs.declared.stream.Found.the-variants as found;
 use crate::refusal::Refusal;
 use crate::refusal::StreamKind;
@@ -30,13 +31,26 @@ pub enum Found {
     CrossModule,
 }
 
+// An index, and the place where its record stands.
+pub struct Cursor {
+    pub index: u32,
+    pub at: usize,
+}
+
+// What a walk to an index came to: its record, no record, or an index of another module.
+pub enum CursorRead {
+    At(Cursor),
+    Missing,
+    CrossModule,
+}
+
 enum Head {
     Good(u32, u32, usize),
     Broken,
 }
 
 // A place that a walk over records came to, or that it went past their end.
-pub enum Place {
+enum Place {
     At(usize),
     Beyond,
 }
@@ -88,7 +102,7 @@ fn header_of(s: &[u8]) -> Head
 }
 
 // The place behind the record at a place.
-pub fn behind_record(s: &[u8], at: usize) -> Place
+fn behind_record(s: &[u8], at: usize) -> Place
     ensures { λ r. ⌜ r ≡ behind (now (s .entry)) at At Beyond ⌝ }
 {
     let Field16::Value(len) = wire::field::u16_at(s, at) else {
@@ -106,7 +120,7 @@ pub fn behind_record(s: &[u8], at: usize) -> Place
 }
 
 // The place behind `count` records from a place on.
-pub fn behind_records(s: &[u8], from: usize, count: u32) -> Place
+fn behind_records(s: &[u8], from: usize, count: u32) -> Place
     ensures { λ r. ⌜ r ≡ passed count (now (s .entry)) from At Beyond ⌝ }
 {
     let mut at = from;
@@ -175,23 +189,55 @@ pub fn records_of<'a>(s: &'a [u8], stream: Stream) -> &'a [u8]
     &s[..stop]
 }
 
+// The walk from a record to that of an index.
+fn walk_from(s: &[u8], stream: Stream, from: Cursor, index: u32) -> CursorRead
+    ensures { λ r. ⌜ r ≡ walkFrom (now (s .entry)) stream from index cursor.At cursor.Missing cursor.CrossModule ⌝ }
+{
+    let first = from.index;
+    if 0x8000_0000 <= index {
+        return CursorRead::CrossModule;
+    }
+    if index < first {
+        return CursorRead::Missing;
+    }
+    if stream.end <= index {
+        return CursorRead::Missing;
+    }
+    let records = records_of(s, stream);
+    let Place::At(at) = behind_records(records, from.at, index - first) else {
+        return CursorRead::Missing;
+    };
+    CursorRead::At(Cursor { index, at })
+}
+
+// Where the record of an index stands.
+pub fn cursor_at(s: &[u8], stream: Stream, index: u32) -> CursorRead
+    ensures { λ r. ⌜ r ≡ walkFrom (now (s .entry)) stream (firstRecord stream) index cursor.At cursor.Missing cursor.CrossModule ⌝ }
+{
+    let first = Cursor {
+        index: stream.first,
+        at: 56,
+    };
+    walk_from(s, stream, first, index)
+}
+
+// Where the record of the next index stands.
+pub fn next_cursor(s: &[u8], stream: Stream, c: Cursor) -> CursorRead
+    ensures { λ r. ⌜ r ≡ walkFrom (now (s .entry)) stream c (c .index + 1) cursor.At cursor.Missing cursor.CrossModule ⌝ }
+{
+    if 0x8000_0000 <= c.index {
+        return CursorRead::CrossModule;
+    }
+    walk_from(s, stream, c, c.index + 1)
+}
+
 // The record of an index of a checked stream.
 pub fn look_up(s: &[u8], stream: Stream, index: u32) -> Found
     ensures { λ r. ⌜ r ≡ lookUp (now (s .entry)) stream index found.Record found.Missing found.CrossModule ⌝ }
 {
-    let first = stream.first;
-    if 0x8000_0000 <= index {
-        return Found::CrossModule;
+    match cursor_at(s, stream, index) {
+        CursorRead::At(c) => record_at(records_of(s, stream), c.at),
+        CursorRead::Missing => Found::Missing,
+        CursorRead::CrossModule => Found::CrossModule,
     }
-    if index < first {
-        return Found::Missing;
-    }
-    if stream.end <= index {
-        return Found::Missing;
-    }
-    let records = records_of(s, stream);
-    let Place::At(at) = behind_records(records, 56, index - first) else {
-        return Found::Missing;
-    };
-    record_at(records, at)
 }

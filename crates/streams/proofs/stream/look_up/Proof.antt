@@ -1,58 +1,48 @@
--- Each return is a case of the definition.
+-- What the cursor of the index says of it.
 -- Assumes nothing.
 use borrow.Author.Needs.{needs}
-use borrow.Author.Tests.{lt-leb, le-leb, lt-ltb, le-ltb}
-use Rattle.streams.specs.Stream.{lookUp}
-use Rattle.streams.proofs.Walk.{passed-at, passed-beyond}
+use mathlib.Core.Path.{sym, _∙_}
+use Rattle.streams.proofs.Cursors.{look-cursor}
 use Rattle.streams.proofs.stream.look_up.Statement.{statement}
 use Rattle.streams.proofs.stream.look_up.Tie as tie
 
-returns : tie.Need-returns
-unfolding lookUp
-returns c = rw (le-leb _ _ (c .if1 .taken))
+cursor-at-requires : tie.Need-cursor-at-requires
+cursor-at-requires c κs = search needs
 
-returns-2 : tie.Need-returns-2
-unfolding lookUp
-returns-2 c = rw (lt-leb _ _ (c .before .if1 .left), lt-ltb _ _ (c .if2 .taken))
-
-returns-3 : tie.Need-returns-3
-unfolding lookUp
-returns-3 c = rw (lt-leb _ _ (c .before .before .before .if1 .left), le-ltb _ _ (c .before .before .if2 .left), le-leb _ _ (c .if3 .taken))
+enum-known-c : tie.Need-enum-known-c
+enum-known-c c = search needs
 
 records-of-requires : tie.Need-records-of-requires
 records-of-requires c κs = search needs
 
-behind-records-requires : tie.Need-behind-records-requires
-behind-records-requires c κs = search needs
-
-enum-known-at : tie.Need-enum-known-at
-enum-known-at c = search needs
+record-at-requires : tie.Need-record-at-requires
+record-at-requires c κs = search needs
 
 enum-told : tie.Need-enum-told
 enum-told c = search needs
 
-returns-4 : tie.Need-returns-4
-unfolding lookUp
-returns-4 c = rw (lt-leb _ _ (c .before .before .before .before .before .before .before .if1 .left), le-ltb _ _ (c .before .before .before .before .before .before .if2 .left), lt-leb _ _ (c .before .before .before .before .if3 .left), ← c .before .before .before .records-of .ensures, passed-beyond _ _ _ (c .before .before .behind-records .ensures) (c .enum-told .given .1))
+enum-told-2 : tie.Need-enum-told-2
+enum-told-2 c = search needs
 
-record-at-requires : tie.Need-record-at-requires
-record-at-requires c κs = search needs
+returns : tie.Need-returns
+returns c = c .record-at .ensures ∙ rw (c .before .records-of .ensures) (sym (look-cursor _ _ _ (c .before .before .before .before .before .cursor-at .ensures) (c .before .before .before .c .given .1) _ _ _))
 
-returns-5 : tie.Need-returns-5
-unfolding lookUp
-returns-5 c = rw (lt-leb _ _ (c .before .before .before .before .before .before .before .before .before .if1 .left), le-ltb _ _ (c .before .before .before .before .before .before .before .before .if2 .left), lt-leb _ _ (c .before .before .before .before .before .before .if3 .left), ← c .before .before .before .before .before .records-of .ensures, passed-at _ _ _ (c .before .before .before .before .behind-records .ensures) _ (c .before .before .at .given .1), c .record-at .ensures)
+returns-2 : tie.Need-returns-2
+returns-2 c = sym (look-cursor _ _ _ (c .before .before .cursor-at .ensures) (c .enum-told .given .1) _ _ _)
+
+returns-3 : tie.Need-returns-3
+returns-3 c = sym (look-cursor _ _ _ (c .before .before .cursor-at .ensures) (c .enum-told2 .given .1) _ _ _)
 
 pub look-up-spec : {M : Type 1} → statement M
 look-up-spec =
     tie.close
     (tie.spec
+    cursor-at-requires
+    enum-known-c
+    records-of-requires
+    record-at-requires
+    enum-told
+    enum-told-2
     returns
     returns-2
-    returns-3
-    records-of-requires
-    behind-records-requires
-    enum-known-at
-    enum-told
-    returns-4
-    record-at-requires
-    returns-5)
+    returns-3)
