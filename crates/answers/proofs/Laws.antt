@@ -16,21 +16,21 @@ use Rattle.pen.proofs.Laws.{Ran, ran-fits, ran-over, wrote-length}
 use Rattle.pen.specs.declared.Pen.{Pen}
 use Rattle.pen.specs.declared.Stop.{Stop}
 use Rattle.pen.specs.declared.Stop.the-variants as stop
-use Rattle.rules.specs.Call.{Outcome, text, stopped, answer, within, bufferAfter}
+use Rattle.rules.specs.Call.{Outcome, text, stopped, answer, within, bufferAfter, ofText}
 use Rattle.answers.specs.declared.Answer.the-variants.{Text, Refused}
-use Rattle.answers.specs.Answers.{given, answerOf, laid, started, closedAs, closed}
+use Rattle.answers.specs.Answers.{ofAnswer, given, laid, started, closedAs, closed}
 
 -- the ends of `close`
 pub close-no : (b : List ℕ) (p : Pen) → p .stop ≡ stop.No → given b (Text (p .at)) ≡ closed b p
-unfolding closed
+unfolding closed ofAnswer
 close-no b p e = rw e
 
 pub close-missing : (b c : List ℕ) (p : Pen) (i : ℕ) → c ≡ replicate (length b) 0 → p .stop ≡ stop.Missing i → given c (Refused (refusal.Missing i)) ≡ closed b p
-unfolding closed
+unfolding closed ofAnswer
 close-missing b c p i f e = rw (e, f)
 
 pub close-refused : (b c : List ℕ) (p : Pen) (r : Refusal) → c ≡ replicate (length b) 0 → p .stop ≡ stop.Refused r → given c (Refused r) ≡ closed b p
-unfolding closed
+unfolding closed ofAnswer
 close-refused b c p r f e = rw (e, f)
 
 -- the outcome by how the pen stopped
@@ -71,7 +71,7 @@ gave buf limit (tr bs e ns c) b q w = by (decLe (length bs) limit)
 
 module _ (buf : List ℕ) (t : Trace Refusal) (b : List ℕ) (q : Pen) where
   laid-at : (x : Stop) (limit : ℕ) → q .stop ≡ x → limit ≡ length buf → length b ≡ length buf → Gave buf limit t b q → closedAs x b (q .at) ≡ laid buf (within limit t)
-  unfolding laid bufferAfter answerOf
+  unfolding laid bufferAfter ofText
   laid-at stop.No limit e h n g =
       let i : within limit t ≡ text (g .bytes) (g .many) = g .is ∙ ap (λ x. answered x (g .bytes) (g .many)) e in
       let r = g .whole e in

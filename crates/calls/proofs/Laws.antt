@@ -18,7 +18,7 @@ use Rattle.reading.specs.Trace.{Trace}
 use Rattle.rules.specs.Flags.{settings, sized, flagged}
 use Rattle.rules.specs.Record.{tableOf}
 use Rattle.rules.specs.Rules.{Task, byItself, functionOf, idOf, sizeOf}
-use Rattle.rules.specs.Call.{refusal, none, stopped, whole, overTypes, overIds, functionReading, idReading, typeReading, sizeReading, strictly, answer, within, functionText, idText, typeText, sizeAnswer, typeSize}
+use Rattle.rules.specs.Call.{refusal, none, stopped, whole, overTypes, overIds, functionReading, idReading, typeReading, sizeReading, strictly, answer, within, functionOutcome, idOutcome, typeOutcome, sizeAnswer, sizeOutcome, ofSize}
 use Rattle.context.specs.Context.{known, settingsOf, tableIn, keysOf, holding}
 use Rattle.context.specs.declared.flags.Call.{Call}
 use Rattle.context.specs.declared.flags.TypeFormatterFlags.{TypeFormatterFlags}
@@ -35,7 +35,7 @@ use Rattle.calls.specs.declared.Checked.{Checked}
 use Rattle.calls.specs.declared.Checked.the-variants.{Good, Refused}
 use Rattle.calls.specs.declared.SizeAnswer.{SizeAnswer}
 use Rattle.calls.specs.declared.SizeAnswer.the-variants as given
-use Rattle.calls.specs.Checks.{withTypes, withIds, andIds, typesBy, callBy, idsBy, performed, taken, functionOver, idOver, typeOver, sizeOver, sizeGiven}
+use Rattle.calls.specs.Checks.{withTypes, withIds, andIds, typesBy, callBy, idsBy, performed, taken, functionOver, idOver, typeOver, sizeOver, ofSizeAnswer}
 
 -- The checks, one by one.
 module _ (t : StreamCheck) (flags size : ℕ) where
@@ -142,20 +142,20 @@ abbrev pub sizeSaid : SizeRead → SizeAnswer
 sizeSaid (size.Bytes n) = given.Bytes n
 sizeSaid (size.TooLong j) = given.Refused (ChainTooLong j)
 
-said-is : (s : SizeRead) (k : ℕ) → sizeGiven (sizeSaid s) ≡ sizeAnswer (within 1 (sizeTrace s k))
-unfolding sizeGiven sizeAnswer within answer sizeTrace
+said-is : (s : SizeRead) (k : ℕ) → ofSizeAnswer (sizeSaid s) ≡ ofSize (sizeAnswer (within 1 (sizeTrace s k)))
+unfolding ofSizeAnswer ofSize sizeAnswer within answer sizeTrace
 said-is (size.Bytes n) k = refl
 said-is (size.TooLong j) k = refl
 
 module _ (t : StreamCheck) (size : ℕ) (types : List ℕ) (i : ℕ) {r : Checked} (e : r ≡ typesBy t (record { 0 = 0 }) size) where
-  pub size-is : {c : Call} {s : SizeRead} {a : SizeAnswer} → r ≡ Good c → Sizes types c i 0 s → sizeSaid s ≡ a → sizeGiven a ≡ sizeOver t size types i
+  pub size-is : {c : Call} {s : SizeRead} {a : SizeAnswer} → r ≡ Good c → Sizes types c i 0 s → sizeSaid s ≡ a → ofSizeAnswer a ≡ ofSize (sizeOver t size types i)
   unfolding sizeOver
   size-is {c} {s} {a} f g h =
       let w = ap (λ r. performed r (taken types [] (sizeOf i 0))) (sym e ∙ f) in
-      rw (← h) (said-is s (g .taken) ∙ ap (λ t. sizeAnswer (within 1 t)) (g .is [] (holding c []) ∙ sym w))
+      rw (← h) (said-is s (g .taken) ∙ ap (λ t. ofSize (sizeAnswer (within 1 t))) (g .is [] (holding c []) ∙ sym w))
 
-  pub size-refused : {f : Refusal} → r ≡ Refused f → sizeGiven (given.Refused f) ≡ sizeOver t size types i
-  unfolding sizeOver sizeGiven sizeAnswer within answer
+  pub size-refused : {f : Refusal} → r ≡ Refused f → ofSizeAnswer (given.Refused f) ≡ ofSize (sizeOver t size types i)
+  unfolding sizeOver ofSizeAnswer ofSize sizeAnswer within answer
   size-refused {f} g = rw (sym e ∙ g) refl
 
 -- What a call reads by the rules, with the real checks of its streams.
@@ -198,18 +198,18 @@ unfolding sizeReading typesBy sized
 over-size types size i = with-types types size (sizeOf i 0) 0 (eqb size 4 || (eqb size 8 || eqb size 16)) (checked Types types) (PointerSize size)
 
 -- With the real checks the four calls are the rules' own. The arguments, as far as a call has them: types, ids, name, flags, size, i, room.
-pub function-over : (types name : List ℕ) (flags size i room : ℕ) → functionOver (checked Types types) flags size types name i room ≡ functionText flags size types name i room
-unfolding functionOver functionText functionReading
+pub function-over : (types name : List ℕ) (flags size i room : ℕ) → functionOver (checked Types types) flags size types name i room ≡ functionOutcome flags size types name i room
+unfolding functionOver functionOutcome functionReading
 function-over types name flags size i room = ap (within room) (sym (over-types types size (functionOf i name) flags))
 
-pub id-over : (types ids : List ℕ) (flags size i room : ℕ) → idOver (checked Types types) (checked Ids ids) flags size types ids i room ≡ idText flags size types ids i room
-unfolding idOver idText idReading
+pub id-over : (types ids : List ℕ) (flags size i room : ℕ) → idOver (checked Types types) (checked Ids ids) flags size types ids i room ≡ idOutcome flags size types ids i room
+unfolding idOver idOutcome idReading
 id-over types ids flags size i room = ap (within room) (sym (over-ids types size (idOf i) ids flags))
 
-pub type-over : (types : List ℕ) (flags size i room : ℕ) → typeOver (checked Types types) flags size types i room ≡ typeText flags size types i room
-unfolding typeOver typeText typeReading
+pub type-over : (types : List ℕ) (flags size i room : ℕ) → typeOver (checked Types types) flags size types i room ≡ typeOutcome flags size types i room
+unfolding typeOver typeOutcome typeReading
 type-over types flags size i room = ap (within room) (sym (over-types types size (byItself i) flags))
 
-pub size-over : (types : List ℕ) (size i : ℕ) → sizeOver (checked Types types) size types i ≡ typeSize size types i
-unfolding sizeOver typeSize
+pub size-over : (types : List ℕ) (size i : ℕ) → sizeOver (checked Types types) size types i ≡ sizeOutcome size types i
+unfolding sizeOver sizeOutcome
 size-over types size i = ap (λ t. sizeAnswer (within 1 t)) (sym (over-size types size i))

@@ -1,4 +1,4 @@
--- What the checks of a call come to, given the results of the stream checks; the answer of each call over them; and the size that a size call answers.
+-- What the checks of a call come to, given the results of the stream checks; the answer of each call over them; and what a size call tells.
 use Prim.Native.Nat.{ℕ}
 use mathlib.Core.List.{List, []}
 use Rattle.streams.specs.declared.refusal.Refusal.{Refusal}
@@ -8,7 +8,7 @@ use Rattle.streams.specs.declared.stream.StreamCheck.the-variants as stream
 use Rattle.reading.specs.Trace.{Trace}
 use Rattle.rules.specs.Flags.{sized, flagged}
 use Rattle.rules.specs.Rules.{Task, byItself, functionOf, idOf, sizeOf, walked}
-use Rattle.rules.specs.Call.{Outcome, Size, bytes, unsized, none, refusal, within, sizeAnswer}
+use Rattle.rules.specs.Call.{Outcome, Size, none, refusal, within, sizeAnswer, Report, refusedBy, accepted}
 use Rattle.context.specs.Context.{settingsOf, tableIn, holding}
 use Rattle.context.specs.declared.flags.Call.{Call}
 use Rattle.context.specs.declared.flags.TypeFormatterFlags.{TypeFormatterFlags}
@@ -70,7 +70,7 @@ typeOver t flags size types i room = within room (performed (callBy t flags size
 unfoldable pub sizeOver : StreamCheck → ℕ → List ℕ → ℕ → Size
 sizeOver t size types i = sizeAnswer (within 1 (performed (typesBy t (record { 0 = 0 }) size) (taken types [] (sizeOf i 0))))
 
--- The answer of a size call, as the rules say it.
-unfoldable pub sizeGiven : SizeAnswer → Size
-sizeGiven (size.Bytes n) = bytes n
-sizeGiven (size.Refused f) = unsized f
+-- What each case of a size answer tells.
+unfoldable pub ofSizeAnswer : SizeAnswer → Report
+ofSizeAnswer (size.Bytes n) = accepted n
+ofSizeAnswer (size.Refused f) = refusedBy f

@@ -3,9 +3,9 @@ ghost use mathlib.Core.Path.{_≡_};
 ghost use mathlib.Core.Bool.{_||_};
 ghost use lib.Dec.{eqb};
 ghost use lib.ListN.{length};
-ghost use Rattle.rules.specs.Call.{stopped};
+ghost use Rattle.rules.specs.Call.{stopped, ofSize};
 ghost use Rattle.answers.specs.Answers.{given, laid};
-ghost use Rattle.calls.specs.Checks.{typesBy, callBy, idsBy, functionOver, idOver, typeOver, sizeOver, sizeGiven};
+ghost use Rattle.calls.specs.Checks.{typesBy, callBy, idsBy, functionOver, idOver, typeOver, sizeOver, ofSizeAnswer};
 use answers::Answer;
 use answers::close;
 use answers::start;
@@ -180,7 +180,7 @@ pub fn type_over(
 
 // The size of a type; this call takes no flags.
 pub fn size_over(types: &[u8], t: StreamCheck, size: u32, index: TypeIndex) -> SizeAnswer
-    ensures { λ r. ⌜ sizeGiven r ≡ sizeOver t size (now (types .entry)) (index .0) ⌝ }
+    ensures { λ r. ⌜ ofSizeAnswer r ≡ ofSize (sizeOver t size (now (types .entry)) (index .0)) ⌝ }
 {
     match check_types(t, TypeFormatterFlags(0), size) {
         Checked::Good(call) => match get_type_size(types, call, index, 0) {

@@ -17,10 +17,12 @@ use Rattle.wire.specs.declared.field.Field32.the-variants as f32
 use Rattle.wire.proofs.Laws.{read8, unread8, read32, unread32, field-short, field-long}
 use Rattle.streams.specs.Refusal.{numberOf, detailOf}
 use Rattle.streams.specs.declared.refusal.Refusal.{Refusal}
+use Rattle.rules.specs.Call.{refusedBy}
+use Rattle.rules.proofs.Demand.{numbered}
 use Rattle.rules.specs.Text.{digit, numeral, decimal, hex}
 use Rattle.pen.specs.Page.{say}
 use Rattle.lines.specs.Command.{wordCommand, wordedAt, sizedAt, functionAt, commandBy, commandAt}
-use Rattle.lines.specs.Line.{head, refusedLine, textLine}
+use Rattle.lines.specs.Line.{head, toldLine, refusedLine, textLine}
 use Rattle.lines.specs.declared.command.Command.{Command}
 use Rattle.lines.specs.declared.command.Command.the-variants.{End, Flags, PointerSize, TypeText, TypeSize, IdText, FunctionText, Faulty}
 
@@ -116,10 +118,20 @@ pub name-none : (n : ℕ) (s : List ℕ) (at : ℕ) → n ≡ 0 → zeroFrom n s
 unfolding zeroFrom
 name-none n s at e = rw e
 
--- A refusal's line, by its number and detail.
-pub refused-line : (n : ℕ) (f : Refusal) {r d : ℕ} → r ≡ numberOf f → d ≡ detailOf f → say (head n r d ++ bytes "\n") ≡ say (refusedLine n f)
+-- A refusal's line, by its number and detail: no refusal has the number 0, so nothing comes behind them.
+told-as : (n : ℕ) (f : Refusal) (bs : List ℕ) → toldLine n (refusedBy f) bs ≡ head n (numberOf f) (detailOf f) ++ bytes "\n"
+unfolding toldLine
+told-as n f bs = rw (ne-eqb (numberOf f) 0 (λ e. let h = numbered f in omega arith)) refl
+
+refused-as : (n : ℕ) (f : Refusal) → refusedLine n f ≡ head n (numberOf f) (detailOf f) ++ bytes "\n"
 unfolding refusedLine
-refused-line n f e g = rw (e, g)
+refused-as n f = told-as n f []
+
+pub told-refused : (n : ℕ) (f : Refusal) (bs : List ℕ) → toldLine n (refusedBy f) bs ≡ refusedLine n f
+told-refused n f bs = told-as n f bs ∙ sym (refused-as n f)
+
+pub refused-line : (n : ℕ) (f : Refusal) {r d : ℕ} → r ≡ numberOf f → d ≡ detailOf f → say (head n r d ++ bytes "\n") ≡ say (refusedLine n f)
+refused-line n f e g = rw (e, g, refused-as n f) refl
 
 -- A line is short: its numbers have so many digits at most.
 joined-length : (a b : List ℕ) (m n : ℕ) → length a ≤ m → length b ≤ n → length (a ++ b) ≤ m + n
@@ -143,11 +155,10 @@ head-length n r d =
     (joined-length (bytes " ") (numeral 10 20 r ++ (bytes " 0x" ++ numeral 16 8 d)) 1 31 (omega arith) h)
 
 pub refused-length : (n : ℕ) (f : Refusal) → length (refusedLine n f) ≤ 53
-unfolding refusedLine
-refused-length n f = joined-length (head n (numberOf f) (detailOf f)) (bytes "\n") 52 1 (head-length n (numberOf f) (detailOf f)) (omega arith)
+refused-length n f = rw (refused-as n f) (joined-length (head n (numberOf f) (detailOf f)) (bytes "\n") 52 1 (head-length n (numberOf f) (detailOf f)) (omega arith))
 
 pub text-length : (n : ℕ) (bs : List ℕ) → length (textLine n bs) ≤ 54 + length bs
-unfolding textLine
+unfolding textLine toldLine
 text-length n bs =
     let h = joined-length (head n 0 0) (bytes " " ++ (bs ++ bytes "\n")) 52 (1 + (length bs + 1)) (head-length n 0 0)
     (joined-length (bytes " ") (bs ++ bytes "\n") 1 (length bs + 1) (omega arith) (joined-length bs (bytes "\n") (length bs) 1 (omega arith) (omega arith))) in

@@ -24,12 +24,12 @@ use Rattle.rules.specs.Record.{Attributes, Method, class, Record, pointe
 use Rattle.rules.specs.Text.{digit, numeral, hex, decimal, missingMark, unimplementedMark, functionName, primitiveName, primitiveSize, primitiveText, worded, classText, overPointee, sign, levels, endsSigned, bracket, brackets, sameBytes}
 use Rattle.rules.specs.Rules.{Task, byItself, sizeOf, idOf, scopeText, functionIdText, idText, idAlone, unread, marked, valueOf, fullLayout, fullNamed, fullOr, result, procedureResult, returned, methodArguments, procedureArguments, namedText, typeText, alone, pointed, aimed, aimedAgain, modifiedText, methodText, thisPointer, methodList, baseText, elementText, fullSize, layoutSize, namedSize, recordSize, sizeStep, staticMark, methodNamed, procedureNamed, functionText, afterRead, sameIndex, rank, entryOf, body, walked, plainly}
 use Rattle.rules.specs.Rules as rule
-use Rattle.rules.specs.Call.{Outcome, text, stopped, answer, within, whole, overTypes, functionReading, typeReading as typeReading₀, sizeReading, typeSize, sizeAnswer, Size, unsized}
+use Rattle.rules.specs.Call.{Outcome, text, stopped, answer, within, whole, overTypes, functionReading, typeReading as typeReading₀, sizeReading, sizeOutcome, sizeAnswer, Size, unsized}
 use Rattle.rules.specs.Call as calls
 
 -- A line `unfolding computing` opens every definition that a case computes with.
 unfoldable computing : Unit {0}
-unfolding scopeText functionIdText idText idAlone number field sizeWidth valueWidth widthOf payload leaf zeroFrom nameEnd name indexes header behind passed tiled checked recordAt walkFrom lookUp part primitives firstOf bit names entries pointerMode containing memberClass modifierOf pointerOf procedureOf memberFunctionOf argumentListOf enumerateOf arrayOf classOf unionOf enumerationOf typeOf primitiveOf readType exec isOpen opening run need walk settings sized flagged nameAt numbersAt matchName typeContents typeReading tableOf digit numeral hex decimal missingMark unimplementedMark functionName primitiveName primitiveSize primitiveText worded classText overPointee sign levels endsSigned bracket brackets sameBytes unread marked valueOf fullLayout fullNamed fullOr result procedureResult returned methodArguments procedureArguments rule.entries namedText typeText alone pointed aimed aimedAgain modifiedText methodText thisPointer methodList baseText elementText fullSize layoutSize namedSize recordSize sizeStep staticMark methodNamed procedureNamed functionText afterRead sameIndex rank entryOf body walked answer within whole overTypes functionReading typeReading₀ sizeReading typeSize sizeAnswer calls.functionText calls.typeText
+unfolding scopeText functionIdText idText idAlone number field sizeWidth valueWidth widthOf payload leaf zeroFrom nameEnd name indexes header behind passed tiled checked recordAt lookUp part primitives firstOf bit names entries pointerMode containing memberClass modifierOf pointerOf procedureOf memberFunctionOf argumentListOf enumerateOf arrayOf classOf unionOf enumerationOf typeOf primitiveOf readType exec isOpen opening run need walk settings sized flagged nameAt numbersAt matchName typeContents typeReading tableOf digit numeral hex decimal missingMark unimplementedMark functionName primitiveName primitiveSize primitiveText worded classText overPointee sign levels endsSigned bracket brackets sameBytes unread marked valueOf fullLayout fullNamed fullOr result procedureResult returned methodArguments procedureArguments rule.entries namedText typeText alone pointed aimed aimedAgain modifiedText methodText thisPointer methodList baseText elementText fullSize layoutSize namedSize recordSize sizeStep staticMark methodNamed procedureNamed functionText afterRead sameIndex rank entryOf body walked answer within whole overTypes functionReading typeReading₀ sizeReading sizeOutcome sizeAnswer calls.functionOutcome calls.typeOutcome
 computing = tt
 
 -- Fields, records and a stream, as bytes.
@@ -85,10 +85,10 @@ a ⇒ b = record { given = a; wanted = b }
 
 -- A type under flags, with room for so many bytes; a function; all with pointer size 8.
 abbrev type : ℕ → ℕ → ℕ → Shown
-type flags index room = shown (calls.typeText flags 8 small index room)
+type flags index room = shown (calls.typeOutcome flags 8 small index room)
 
 abbrev function₀ : ℕ → String → ℕ → Shown
-function₀ flags name index = shown (calls.functionText flags 8 small (bytes name) index 64)
+function₀ flags name index = shown (calls.functionOutcome flags 8 small (bytes name) index 64)
 
 abbrev pub cases : List Case
 cases =
@@ -101,7 +101,7 @@ cases =
     (type 8 0x1004 64 ⇒ written (bytes "char const * const")) ∷
     -- 4
     (type 0 0x1007 64 ⇒ written (bytes "struct A[5][3]")) ∷
-    (shownSize (typeSize 8 small 0x1007) ⇒ sizeIs 60) ∷
+    (shownSize (sizeOutcome 8 small 0x1007) ⇒ sizeIs 60) ∷
     -- 5
     (type 0 0x1001 64 ⇒ written (bytes "void ()(int")) ∷
     -- 6

@@ -23,7 +23,7 @@ use Rattle.reading.proofs.Steps.{by-steps}
 use Rattle.rules.specs.Flags.{Settings, settings, sized, flagged}
 use Rattle.rules.specs.Record.{Table, tableOf}
 use Rattle.rules.specs.Rules.{Task, byItself, functionOf, sizeOf, idOf, sameIndex, entryOf, body, rank, walked, plainly}
-use Rattle.rules.specs.Call.{Outcome, text, stopped, answer, within, refusal, whole, none, overTypes, overIds, functionReading, idReading, typeReading, sizeReading, strictly, plainTo, functionText, idText, typeText, metAgain, limitPassed, Reads, Demand}
+use Rattle.rules.specs.Call.{Outcome, text, stopped, answer, within, refusal, whole, none, overTypes, overIds, functionReading, idReading, typeReading, sizeReading, strictly, plainTo, metAgain, limitPassed, Reads, Demand, FunctionDemand, IdDemand, TypeDemand, SizeFinished}
 use Rattle.rules.proofs.Rank.{ranked}
 
 -- What ties a call's walk to its plain readings: the walk writes a text exactly where some number of steps finish the reading in it with nothing noted, and a reading
@@ -166,40 +166,25 @@ module _ {s : Trace Refusal} {p : ℕ → Trace Refusal} (tied : Tied s p) where
       let r = demand room bs n .0 e .0 in
       never (r .steps) (subst Finished (sym (r .ended)) tt)
 
-  demands : Demand (λ room. within room s) p
-  demands = record { exactly = demand; one = one-text; never = no-text }
+demands : {reading : (Settings → Table → Task → Trace Refusal) → Trace Refusal} → Tied (reading strictly) (λ n. reading (plainTo n)) → Demand reading
+demands tied = record { finished = tied .ends; exactly = demand tied; one = one-text tied; never = no-text tied }
 
--- Demand 3 of the three text calls, for every pair of streams, index, name, flags, pointer size and buffer; and their walks always end.
+-- Demand 3 of the three text calls, for every pair of streams, index, name, flags, pointer size and buffer.
 module _ (flags size : ℕ) (types : List ℕ) where
-  module _ (name : List ℕ) (index : ℕ) where
-    pub function-demand : Demand (functionText flags size types name index) (λ n. functionReading (plainTo n) flags size types name index)
-    unfolding functionText functionReading
-    function-demand = demands (tied-types flags size types (functionOf index name))
+  pub function-demand : (name : List ℕ) (index : ℕ) → FunctionDemand flags size types name index
+  unfolding functionReading
+  function-demand name index = demands (tied-types flags size types (functionOf index name))
 
-    pub function-ends : Finished (functionReading strictly flags size types name index)
-    unfolding functionReading
-    function-ends = tied-types flags size types (functionOf index name) .ends
+  pub id-demand : (ids : List ℕ) (index : ℕ) → IdDemand flags size types ids index
+  unfolding idReading
+  id-demand ids index = demands (tied-ids flags size types ids (idOf index))
 
-  module _ (ids : List ℕ) (index : ℕ) where
-    pub id-demand : Demand (idText flags size types ids index) (λ n. idReading (plainTo n) flags size types ids index)
-    unfolding idText idReading
-    id-demand = demands (tied-ids flags size types ids (idOf index))
-
-    pub id-ends : Finished (idReading strictly flags size types ids index)
-    unfolding idReading
-    id-ends = tied-ids flags size types ids (idOf index) .ends
-
-  module _ (index : ℕ) where
-    pub type-demand : Demand (typeText flags size types index) (λ n. typeReading (plainTo n) flags size types index)
-    unfolding typeText typeReading
-    type-demand = demands (tied-types flags size types (byItself index))
-
-    pub type-ends : Finished (typeReading strictly flags size types index)
-    unfolding typeReading
-    type-ends = tied-types flags size types (byItself index) .ends
+  pub type-demand : (index : ℕ) → TypeDemand flags size types index
+  unfolding typeReading
+  type-demand index = demands (tied-types flags size types (byItself index))
 
 -- The walk of a size call always ends too.
-pub size-ends : (size : ℕ) (types : List ℕ) (index : ℕ) → Finished (sizeReading strictly size types index)
+pub size-ends : (size : ℕ) (types : List ℕ) (index : ℕ) → SizeFinished size types index
 unfolding sizeReading sized
 size-ends size types index =
     tied-pick (eqb size 4 || (eqb size 8 || eqb size 16))

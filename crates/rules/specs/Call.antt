@@ -7,6 +7,7 @@ use mathlib.Core.Path.{_≡_}
 use lib.Dec.{leb}
 use lib.ListN.{length, drop, replicate}
 use Rattle.wire.specs.Field.{pick}
+use Rattle.streams.specs.Refusal.{numberOf, detailOf}
 use Rattle.streams.specs.Stream.{checked}
 use Rattle.streams.specs.declared.refusal.StreamKind.the-variants.{Types, Ids}
 use Rattle.streams.specs.declared.refusal.Refusal.{Refusal}
@@ -111,14 +112,14 @@ abbrev pub plainTo : ℕ → Settings → Table → Task → Trace Refusal
 plainTo n c t x = plainly c t n (held 0 []) x
 
 -- The answers of the three text calls, given the length of the lent buffer.
-unfoldable pub functionText : ℕ → ℕ → List ℕ → List ℕ → ℕ → ℕ → Outcome
-functionText flags size types name index room = within room (functionReading strictly flags size types name index)
+unfoldable pub functionOutcome : ℕ → ℕ → List ℕ → List ℕ → ℕ → ℕ → Outcome
+functionOutcome flags size types name index room = within room (functionReading strictly flags size types name index)
 
-unfoldable pub idText : ℕ → ℕ → List ℕ → List ℕ → ℕ → ℕ → Outcome
-idText flags size types ids index room = within room (idReading strictly flags size types ids index)
+unfoldable pub idOutcome : ℕ → ℕ → List ℕ → List ℕ → ℕ → ℕ → Outcome
+idOutcome flags size types ids index room = within room (idReading strictly flags size types ids index)
 
-unfoldable pub typeText : ℕ → ℕ → List ℕ → ℕ → ℕ → Outcome
-typeText flags size types index room = within room (typeReading strictly flags size types index)
+unfoldable pub typeOutcome : ℕ → ℕ → List ℕ → ℕ → ℕ → Outcome
+typeOutcome flags size types index room = within room (typeReading strictly flags size types index)
 
 -- What a size call answers: a size or a refusal. Its walk writes one number.
 pub data Size : Type 0 where
@@ -130,8 +131,33 @@ sizeAnswer (text [] n) = bytes 0
 sizeAnswer (text (b ∷ bs) n) = bytes b
 sizeAnswer (stopped f) = unsized f
 
-unfoldable pub typeSize : ℕ → List ℕ → ℕ → Size
-typeSize size types index = sizeAnswer (within 1 (sizeReading strictly size types index))
+unfoldable pub sizeOutcome : ℕ → List ℕ → ℕ → Size
+sizeOutcome size types index = sizeAnswer (within 1 (sizeReading strictly size types index))
+
+-- What a call tells beside the buffer: the refusal's number, or 0; its detail, or 0; the length of the text or the size, or 0 where it is refused.
+pub record Report : Type 0 where
+  pub number : ℕ
+  pub detail : ℕ
+  pub value : ℕ
+
+abbrev pub report : ℕ → ℕ → ℕ → Report
+report n d v = record { number = n; detail = d; value = v }
+
+-- What a refusal tells, and what is told where nothing is refused.
+abbrev pub refusedBy : Refusal → Report
+refusedBy f = report (numberOf f) (detailOf f) 0
+
+abbrev pub accepted : ℕ → Report
+accepted n = report 0 0 n
+
+-- What the text calls tell: "a text fills the start of the lent buffer", so its length says where it ends. And what the size call tells.
+unfoldable pub ofText : Outcome → Report
+ofText (text bs n) = accepted (length bs)
+ofText (stopped f) = refusedBy f
+
+unfoldable pub ofSize : Size → Report
+ofSize (bytes n) = accepted n
+ofSize (unsized f) = refusedBy f
 
 -- What was noted along a reading: an index opened while open, a limit passed.
 unfoldable pub metAgain : List Mark → Bool
@@ -155,9 +181,25 @@ pub record Reads (reading : ℕ → Trace Refusal) (bs : List ℕ) (n : ℕ) : T
   pub notAgain : metAgain notes ≡ false
   pub notPassed : limitPassed notes ≡ false
 
--- Demand 3 of a call, by its answers over the room lent and its plain reading: a text exactly where the plain reading ends in it so and the buffer is
--- long enough, and it is that text; the plain reading ends in at most one text; where it never ends there is none, however long the buffer.
-pub record Demand (answers : ℕ → Outcome) (reading : ℕ → Trace Refusal) : Type 0 where
-  pub exactly : (room : ℕ) (bs : List ℕ) (n : ℕ) → (answers room ≡ text bs n) ↔ (Reads reading bs n × (length bs ≤ room))
-  pub one : (n m : ℕ) (bs cs : List ℕ) (ns ms : List Mark) (k l : Count) → reading n ≡ tr bs done ns k → reading m ≡ tr cs done ms l → bs ≡ cs
-  pub never : ((n : ℕ) → ¬ (Finished (reading n))) → (room : ℕ) (bs : List ℕ) (n : ℕ) → ¬ (answers room ≡ text bs n)
+-- Demand 3 of a call, by its reading, given how a task is read. The call's walk ends, so 15 is said only of bytes that do not fit. There is a text exactly where
+-- the plain reading ends in it so and the buffer is long enough, and it is that text; the plain reading ends in at most one text; where it never ends there
+-- is none, however long the buffer.
+pub record Demand (reading : (Settings → Table → Task → Trace Refusal) → Trace Refusal) : Type 0 where
+  pub finished : Finished (reading strictly)
+  pub exactly : (room : ℕ) (bs : List ℕ) (n : ℕ) → (within room (reading strictly) ≡ text bs n) ↔ (Reads (λ n. reading (plainTo n)) bs n × (length bs ≤ room))
+  pub one : (n m : ℕ) (bs cs : List ℕ) (ns ms : List Mark) (k l : Count) → reading (plainTo n) ≡ tr bs done ns k → reading (plainTo m) ≡ tr cs done ms l → bs ≡ cs
+  pub never : ((n : ℕ) → ¬ (Finished (reading (plainTo n)))) → (room : ℕ) (bs : List ℕ) (n : ℕ) → ¬ (within room (reading strictly) ≡ text bs n)
+
+-- Demand 3 of each text call.
+abbrev pub FunctionDemand : ℕ → ℕ → List ℕ → List ℕ → ℕ → Type 0
+FunctionDemand flags size types name index = Demand (λ read. functionReading read flags size types name index)
+
+abbrev pub IdDemand : ℕ → ℕ → List ℕ → List ℕ → ℕ → Type 0
+IdDemand flags size types ids index = Demand (λ read. idReading read flags size types ids index)
+
+abbrev pub TypeDemand : ℕ → ℕ → List ℕ → ℕ → Type 0
+TypeDemand flags size types index = Demand (λ read. typeReading read flags size types index)
+
+-- The walk of a size call ends too.
+abbrev pub SizeFinished : ℕ → List ℕ → ℕ → Type 0
+SizeFinished size types index = Finished (sizeReading strictly size types index)

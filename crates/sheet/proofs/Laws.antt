@@ -19,7 +19,7 @@ use Rattle.pen.specs.Page.{Page, page, Wrote, say, ink, stopOf}
 use Rattle.pen.specs.declared.Pen.{Pen}
 use Rattle.pen.specs.declared.Stop.the-variants.{No}
 use Rattle.pen.proofs.Laws.{run-say, ran-fits, Ran, ink-append, wrote-length}
-use Rattle.answers.specs.Answers.{given, started, answerOf, laid}
+use Rattle.answers.specs.Answers.{Result, ofAnswer, given, started, laid}
 use Rattle.answers.specs.declared.Answer.{Answer}
 use Rattle.answers.specs.declared.Answer.the-variants as answer
 use Rattle.wire.proofs.Laws.{field-short}
@@ -32,17 +32,17 @@ use Rattle.streams.specs.Stream.{checked}
 use Rattle.streams.specs.declared.refusal.StreamKind.the-variants.{Types, Ids}
 use Rattle.streams.specs.declared.refusal.Refusal.the-variants.{UnknownCommand, Missing, CircularTypeDefinition, TooManyOpen, ChainTooLong, NoRoom}
 use Rattle.streams.specs.declared.stream.StreamCheck.{StreamCheck}
-use Rattle.rules.specs.Call.{functionText, idText, typeText, typeSize}
-use Rattle.calls.specs.Checks.{sizeGiven, functionOver, idOver, typeOver, sizeOver}
+use Rattle.rules.specs.Call.{functionOutcome, idOutcome, typeOutcome, sizeOutcome}
+use Rattle.calls.specs.Checks.{ofSizeAnswer, functionOver, idOver, typeOver, sizeOver}
 use Rattle.calls.proofs.Laws.{function-over, id-over, type-over, size-over}
 use Rattle.calls.specs.declared.SizeAnswer.{SizeAnswer}
 use Rattle.calls.specs.declared.SizeAnswer.the-variants as sized
 use Rattle.lines.specs.Command.{commandAt, commandBy, givenName}
-use Rattle.lines.proofs.Laws.{refused-length, text-length, size-length}
-use Rattle.lines.specs.Line.{textLine, refusedLine, outcomeLine, sizeLine}
+use Rattle.lines.proofs.Laws.{told-refused, refused-length, text-length, size-length}
+use Rattle.lines.specs.Line.{toldLine, textLine, refusedLine, textOf, outcomeLine, sizeLine}
 use Rattle.lines.specs.declared.command.Command.{Command}
 use Rattle.lines.specs.declared.command.Command.the-variants.{End, Flags, PointerSize, TypeText, TypeSize, IdText, FunctionText, Faulty}
-use Rattle.sheet.specs.Sheet.{stepOf, behindOf, afterOf, answerLine, Fit, ahead, fit, lineOf, byStep, linesFrom, sheetLines, begin}
+use Rattle.sheet.specs.Sheet.{stepOf, behindOf, afterOf, answerLine, functionLine, Fit, ahead, fit, lineOf, byStep, linesFrom, sheetLines, begin}
 use Rattle.sheet.specs.Printed.{Whole, Placed, put, putOf, Shown, shown, laidOut, joined, Continues}
 use Rattle.sheet.specs.declared.State.{State}
 use Rattle.sheet.specs.declared.Step.{Step}
@@ -59,19 +59,19 @@ line-whole {buf} {b} {l} {p} {q} e w h =
     let k : 0 + length l ≤ length buf = omega arith in
     record { length-is = r .at; buffer-is = r .buffer ∙ (rw (sets-eq l buf 0 k, zero-add) refl) }
 
--- The line of a text call's answer is that of its outcome.
+-- The line of a text call's answer is that of its outcome: what is told is the same, and the text is the start of the buffer.
 module _ (n : ℕ) (buf out : List ℕ) where
-  texted : (bs : List ℕ) (k : ℕ) (a : Answer) → given out a ≡ laid buf (call.text bs k) → answerLine n out a ≡ textLine n bs
-  unfolding laid call.bufferAfter answerLine answerOf
-  texted bs k a e =
-      let f : a ≡ answer.Text (length bs) = ap (λ r. r .answer) e in
-      let g : out ≡ bs ++ drop (length bs) buf = ap (λ r. r .buf) e in
-      rw (f, g, take-append-seam bs (drop (length bs) buf)) refl
+  text-taken : (o : call.Outcome) → take (call.ofText o .value) (call.bufferAfter buf o) ≡ textOf o
+  unfolding call.ofText call.bufferAfter textOf
+  text-taken (call.text bs k) = take-append-seam bs (drop (length bs) buf)
+  text-taken (call.stopped f) = refl
 
-  pub answer-line : (o : call.Outcome) (a : Answer) → given out a ≡ laid buf o → answerLine n out a ≡ outcomeLine n o
-  unfolding outcomeLine laid answerLine answerOf
-  answer-line (call.text bs k) a e = texted bs k a e
-  answer-line (call.stopped f) a e = let g : a ≡ answer.Refused f = ap (λ r. r .answer) e in rw g refl
+  pub answer-line : (o : call.Outcome) (a : Answer) → given out a ≡ laid buf o → answerLine n out (ofAnswer a) ≡ outcomeLine n o
+  unfolding outcomeLine laid answerLine
+  answer-line o a e =
+      let t : ofAnswer a ≡ call.ofText o = ap (λ (r : Result). r .told) e in
+      let b : out ≡ call.bufferAfter buf o = ap (λ (r : Result). r .buf) e in
+      rw (t, b, text-taken o) refl
 
 -- What was printed so far, from the start of the buffer.
 module _ {out₀ out bs : List ℕ} {p : Pen} (e : page out p ≡ ink (page out₀ (started (length out₀))) bs) (h : length bs ≤ length out₀) where
@@ -454,22 +454,22 @@ module _ (types ids sheet out₀ : List ℕ) (skip : ℕ) where
 
 -- The line of a size, and of a text, by the answer.
 module _ {buf out : List ℕ} {k : ℕ} (number : ℕ) where
-  pub size-line : (a : SizeAnswer) {n : ℕ} → a ≡ sized.Bytes n → Whole buf (textLine number (decimal n)) out k → Whole buf (sizeLine number (sizeGiven a)) out k
-  unfolding sizeLine sizeGiven
+  pub size-line : (a : SizeAnswer) {n : ℕ} → a ≡ sized.Bytes n → Whole buf (textLine number (decimal n)) out k → Whole buf (sizeLine number (ofSizeAnswer a)) out k
+  unfolding sizeLine ofSizeAnswer textLine toldLine
   size-line a e w = rw e w
 
-  pub size-refused : (a : SizeAnswer) {f : Refusal} → a ≡ sized.Refused f → Whole buf (refusedLine number f) out k → Whole buf (sizeLine number (sizeGiven a)) out k
-  unfolding sizeLine sizeGiven
-  size-refused a e w = rw e w
+  pub size-refused : (a : SizeAnswer) {f : Refusal} → a ≡ sized.Refused f → Whole buf (refusedLine number f) out k → Whole buf (sizeLine number (ofSizeAnswer a)) out k
+  unfolding sizeLine ofSizeAnswer
+  size-refused a {f} e w = rw (e, told-refused number f (decimal 0)) w
 
   module _ (text : List ℕ) (a : Answer) where
     pub text-said : {n : ℕ} {bs : List ℕ} → a ≡ answer.Text n → bs ≡ nameAt text (record { start = 0; len = n }) → Whole buf (textLine number bs) out k
-        → Whole buf (answerLine number text a) out k
-    unfolding answerLine nameAt
+        → Whole buf (answerLine number text (ofAnswer a)) out k
+    unfolding answerLine ofAnswer nameAt textLine toldLine
     text-said e f w = rw e (rw f at w)
 
-    pub refusal-said : {f : Refusal} → a ≡ answer.Refused f → Whole buf (refusedLine number f) out k → Whole buf (answerLine number text a) out k
-    unfolding answerLine
+    pub refusal-said : {f : Refusal} → a ≡ answer.Refused f → Whole buf (refusedLine number f) out k → Whole buf (answerLine number text (ofAnswer a)) out k
+    unfolding answerLine ofAnswer refusedLine
     refusal-said e w = rw e w
 
 pub taken-length : (text : List ℕ) (n : Name) {bs : List ℕ} → bs ≡ nameAt text n → length bs ≤ length text
@@ -515,18 +515,18 @@ whole-none e = whole-as e (record { length-is = refl; buffer-is = refl })
 -- What the calls answer, the streams being checked, in a text buffer of 4,096 bytes.
 module _ (types : List ℕ) {t : StreamCheck} (e : t ≡ checked Types types) where
   pub function-outcome : (sheet : List ℕ) (at flags size i : ℕ) {name : List ℕ} {room : ℕ} → name ≡ givenName sheet at → room ≡ 4096
-      → functionOver t flags size types name i room ≡ functionText flags size types (givenName sheet at) i 4096
+      → functionOver t flags size types name i room ≡ functionOutcome flags size types (givenName sheet at) i 4096
   function-outcome sheet at flags size i f g = rw (e, f, g) (function-over types (givenName sheet at) flags size i 4096)
 
-  pub type-outcome : (flags size i : ℕ) {room : ℕ} → room ≡ 4096 → typeOver t flags size types i room ≡ typeText flags size types i 4096
+  pub type-outcome : (flags size i : ℕ) {room : ℕ} → room ≡ 4096 → typeOver t flags size types i room ≡ typeOutcome flags size types i 4096
   type-outcome flags size i g = rw (e, g) (type-over types flags size i 4096)
 
   pub id-outcome : (ids : List ℕ) {u : StreamCheck} → u ≡ checked Ids ids → (flags size i : ℕ) {room : ℕ} → room ≡ 4096
-      → idOver t u flags size types ids i room ≡ idText flags size types ids i 4096
+      → idOver t u flags size types ids i room ≡ idOutcome flags size types ids i 4096
   id-outcome ids f flags size i g = rw (e, f, g) (id-over types ids flags size i 4096)
 
-  pub size-outcome : (size i : ℕ) (a : SizeAnswer) → sizeGiven a ≡ sizeOver t size types i → sizeGiven a ≡ typeSize size types i
-  size-outcome size i a f = f ∙ rw e (size-over types size i)
+  pub size-outcome : (size i : ℕ) (a : SizeAnswer) → ofSizeAnswer a ≡ call.ofSize (sizeOver t size types i) → ofSizeAnswer a ≡ call.ofSize (sizeOutcome size types i)
+  size-outcome size i a f = f ∙ ap call.ofSize (rw e (size-over types size i))
 
 -- The line of each kind of command.
 module _ (types ids sheet : List ℕ) (s : State) (c : Command) where
@@ -543,19 +543,19 @@ module _ (types ids sheet : List ℕ) (s : State) (c : Command) where
     unfolding lineOf
     line-pointer e = rw e refl
 
-    pub line-type : c ≡ TypeText n → outcomeLine (s .lines + 1) (typeText (s .flags) (s .size) types n 4096) ≡ lineOf types ids sheet s c
+    pub line-type : c ≡ TypeText n → outcomeLine (s .lines + 1) (typeOutcome (s .flags) (s .size) types n 4096) ≡ lineOf types ids sheet s c
     unfolding lineOf
     line-type e = rw e refl
 
-    pub line-size : c ≡ TypeSize n → sizeLine (s .lines + 1) (typeSize (s .size) types n) ≡ lineOf types ids sheet s c
+    pub line-size : c ≡ TypeSize n → sizeLine (s .lines + 1) (call.ofSize (sizeOutcome (s .size) types n)) ≡ lineOf types ids sheet s c
     unfolding lineOf
     line-size e = rw e refl
 
-    pub line-id : c ≡ IdText n → outcomeLine (s .lines + 1) (idText (s .flags) (s .size) types ids n 4096) ≡ lineOf types ids sheet s c
+    pub line-id : c ≡ IdText n → outcomeLine (s .lines + 1) (idOutcome (s .flags) (s .size) types ids n 4096) ≡ lineOf types ids sheet s c
     unfolding lineOf
     line-id e = rw e refl
 
-    pub line-function : c ≡ FunctionText n → outcomeLine (s .lines + 1) (functionText (s .flags) (s .size) types (givenName sheet (s .at + 5)) n 4096) ≡ lineOf types ids sheet s c
+    pub line-function : c ≡ FunctionText n → functionLine types sheet s n ≡ lineOf types ids sheet s c
     unfolding lineOf
     line-function e = rw e refl
 
@@ -631,12 +631,12 @@ Short [] = Unit {0}
 Short (l ∷ ls) = (length l ≤ 4150) × Short ls
 
 no-room-line : (n room : ℕ) → length (outcomeLine n (call.stopped NoRoom)) ≤ 54 + room
-unfolding outcomeLine
+unfolding outcomeLine call.ofText textOf refusedLine
 no-room-line n room = refused-room n NoRoom (omega arith)
 
 -- Each line has 4,150 bytes at most.
 said-length : (n room : ℕ) (bs : List ℕ) (k : ℕ) (e : trace.End Refusal) → length bs ≤ room → length (outcomeLine n (call.answer bs k e)) ≤ 54 + room
-unfolding outcomeLine call.answer
+unfolding outcomeLine call.answer call.ofText textOf textLine refusedLine
 said-length n room bs k done h = let l = text-length n bs in omega arith
 said-length n room bs k (missing i) h = refused-room n (Missing i) (omega arith)
 said-length n room bs k (refused f) h = refused-room n f (omega arith)
@@ -653,19 +653,22 @@ outcome-length n room (tr bs e ns c) = by (decLe (length bs) room)
     by (yes h) = rw (le-leb (length bs) room h) (said-length n room bs (c .opened) e h)
     by (no h) = rw (lt-leb (length bs) room (omega arith)) (no-room-line n room)
 
-size-line-length : (n : ℕ) (a : call.Size) → length (sizeLine n a) ≤ 4150
-unfolding sizeLine
+unsized-length : (n : ℕ) (f : Refusal) → length (toldLine n (call.refusedBy f) (decimal 0)) ≤ 4150
+unsized-length n f = rw (told-refused n f (decimal 0)) (refused-room n f (omega arith))
+
+size-line-length : (n : ℕ) (a : call.Size) → length (sizeLine n (call.ofSize a)) ≤ 4150
+unfolding sizeLine call.ofSize textLine toldLine
 size-line-length n (call.bytes k) = size-room n k (omega arith)
-size-line-length n (call.unsized f) = refused-room n f (omega arith)
+size-line-length n (call.unsized f) = unsized-length n f
 
 module _ (types ids sheet : List ℕ) where
   line-length : (s : State) (c : Command) → length (lineOf types ids sheet s c) ≤ 4150
-  unfolding lineOf typeText idText functionText
+  unfolding lineOf typeOutcome idOutcome functionOutcome
   line-length s End = omega arith
   line-length s (Flags n) = omega arith
   line-length s (PointerSize n) = omega arith
   line-length s (TypeText i) = outcome-length (s .lines + 1) 4096 _
-  line-length s (TypeSize i) = size-line-length (s .lines + 1) (typeSize (s .size) types i)
+  line-length s (TypeSize i) = size-line-length (s .lines + 1) (sizeOutcome (s .size) types i)
   line-length s (IdText i) = outcome-length (s .lines + 1) 4096 _
   line-length s (FunctionText i) = outcome-length (s .lines + 1) 4096 _
   line-length s (Faulty b) = refused-room (s .lines + 1) (UnknownCommand b) (omega arith)

@@ -8,8 +8,9 @@ use lib.ListN.{length, drop}
 use Rattle.wire.specs.Field.{pick}
 use Rattle.pen.specs.Page.{Page, page, ink}
 use Rattle.pen.specs.declared.Pen.{Pen}
-use Rattle.sheet.specs.Sheet.{Fit}
+use Rattle.sheet.specs.Sheet.{Fit, sheetLines, sheetFit}
 use Rattle.sheet.specs.declared.Printed.{Printed}
+use Rattle.sheet.specs.declared.State.{State}
 
 -- A line at the start of a buffer, the rest as it was, and its length.
 pub record Whole (buf l : List ℕ) (out : List ℕ) (n : ℕ) : Type 0 where
@@ -55,3 +56,11 @@ pub record Continues (all : List (List ℕ)) (skip room : ℕ) (f : Fit) : Type 
   pub over : f .more ≡ false → drop (skip + f .lines) all ≡ []
   pub left : f .more ≡ true → skip + f .lines < length all
   pub some : f .more ≡ true → 4150 ≤ room → 0 < f .lines
+
+-- Nothing is lost of a sheet's lines behind the first `skip`, in so much room.
+abbrev pub SheetContinues : List ℕ → List ℕ → List ℕ → ℕ → ℕ → Type 0
+SheetContinues types ids sheet skip room = Continues (sheetLines types ids sheet) skip room (sheetFit types ids sheet skip room)
+
+-- A state whose place and lines can be counted on.
+abbrev pub Countable : State → Type 0
+Countable s = (s .at < 9223372036854775808) × (s .lines < 9223372036854775808)

@@ -3,14 +3,12 @@ use Prim.Native.Nat.{ℕ, zero, suc, _+_, _-_}
 use mathlib.Core.Bool.{Bool, true, false}
 use mathlib.Core.List.{List, [], _∷_, _++_}
 use lib.Dec.{leb}
-use lib.ListN.{length, take}
+use lib.ListN.{length, take, drop}
 use Rattle.wire.specs.Field.{pick}
 use Rattle.streams.specs.declared.refusal.Refusal.the-variants.{UnknownCommand}
-use Rattle.rules.specs.Call.{functionText, idText, typeText, typeSize}
-use Rattle.answers.specs.declared.Answer.{Answer}
-use Rattle.answers.specs.declared.Answer.the-variants as answer
+use Rattle.rules.specs.Call.{functionOutcome, idOutcome, typeOutcome, sizeOutcome, Report, ofSize}
 use Rattle.lines.specs.Command.{commandAt, givenName}
-use Rattle.lines.specs.Line.{textLine, refusedLine, outcomeLine, sizeLine}
+use Rattle.lines.specs.Line.{toldLine, refusedLine, outcomeLine, sizeLine}
 use Rattle.lines.specs.declared.command.Command.{Command}
 use Rattle.lines.specs.declared.command.Command.the-variants.{End, Flags, PointerSize, TypeText, TypeSize, IdText, FunctionText, Faulty}
 use Rattle.sheet.specs.declared.State.{State}
@@ -46,10 +44,13 @@ afterOf s (IdText i) = behindOf s 5
 afterOf s (FunctionText i) = behindOf s 21
 afterOf s (Faulty b) = behindOf s 5
 
--- The line of an answer whose text starts the buffer.
-unfoldable pub answerLine : ℕ → List ℕ → Answer → List ℕ
-answerLine n buf (answer.Text k) = textLine n (take k buf)
-answerLine n buf (answer.Refused f) = refusedLine n f
+-- The line of what a text call tells, its text at the start of the buffer.
+unfoldable pub answerLine : ℕ → List ℕ → Report → List ℕ
+answerLine n buf t = toldLine n t (take (t .value) buf)
+
+-- The line of a function command, whose name stands in the sheet. The text buffer has 4,096 bytes.
+abbrev pub functionLine : List ℕ → List ℕ → State → ℕ → List ℕ
+functionLine types sheet s i = outcomeLine (s .lines + 1) (functionOutcome (s .flags) (s .size) types (givenName sheet (s .at + 5)) i 4096)
 
 -- As many whole lines as fit: their bytes, how many they are, and whether lines are left.
 pub record Fit : Type 0 where
@@ -66,15 +67,15 @@ fit room (l ∷ ls) =
     pick (leb (length l) room) (ahead l 1 (fit (room - length l) ls)) (record { bytes = []; lines = 0; more = true })
 
 module _ (types ids sheet : List ℕ) where
-  -- The line of a command; the text buffer has 4,096 bytes.
+  -- The line of a command.
   unfoldable pub lineOf : State → Command → List ℕ
   lineOf s End = []
   lineOf s (Flags n) = []
   lineOf s (PointerSize n) = []
-  lineOf s (TypeText i) = outcomeLine (s .lines + 1) (typeText (s .flags) (s .size) types i 4096)
-  lineOf s (TypeSize i) = sizeLine (s .lines + 1) (typeSize (s .size) types i)
-  lineOf s (IdText i) = outcomeLine (s .lines + 1) (idText (s .flags) (s .size) types ids i 4096)
-  lineOf s (FunctionText i) = outcomeLine (s .lines + 1) (functionText (s .flags) (s .size) types (givenName sheet (s .at + 5)) i 4096)
+  lineOf s (TypeText i) = outcomeLine (s .lines + 1) (typeOutcome (s .flags) (s .size) types i 4096)
+  lineOf s (TypeSize i) = sizeLine (s .lines + 1) (ofSize (sizeOutcome (s .size) types i))
+  lineOf s (IdText i) = outcomeLine (s .lines + 1) (idOutcome (s .flags) (s .size) types ids i 4096)
+  lineOf s (FunctionText i) = functionLine types sheet s i
   lineOf s (Faulty b) = refusedLine (s .lines + 1) (UnknownCommand b)
 
   abbrev pub byStep : Step → List ℕ → List (List ℕ) → List (List ℕ)
@@ -93,3 +94,7 @@ module _ (types ids sheet : List ℕ) where
   -- All lines of the sheet: each command has a byte at least.
   unfoldable pub sheetLines : List (List ℕ)
   sheetLines = linesFrom (length sheet) begin
+
+  -- What is printed of them behind the first `skip`, in so much room.
+  abbrev pub sheetFit : ℕ → ℕ → Fit
+  sheetFit skip room = fit room (drop skip sheetLines)

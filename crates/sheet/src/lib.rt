@@ -3,16 +3,16 @@ ghost use mathlib.Core.Path.{_≡_};
 ghost use mathlib.Core.List.{_++_};
 ghost use Prim.Native.Nat.{_+_, _-_, _≤_, _<_};
 ghost use lib.Dec.{ltb};
-ghost use lib.ListN.{length, drop};
+ghost use lib.ListN.{length};
 ghost use Rattle.streams.specs.Stream.{checked};
 ghost use Rattle.streams.specs.declared.refusal.StreamKind.the-variants.{Types, Ids};
 ghost use Rattle.lines.specs.Command.{givenName};
 ghost use Rattle.pen.specs.Page.{page};
-ghost use Rattle.calls.specs.Checks.{sizeGiven};
-ghost use Rattle.lines.specs.Line.{sizeLine, refusedLine, outcomeLine};
-ghost use Rattle.rules.specs.Call.{functionText};
-ghost use Rattle.sheet.specs.Sheet.{afterOf, behindOf, stepOf, answerLine, lineOf, fit, sheetLines};
-ghost use Rattle.sheet.specs.Printed.{put, putOf, shown, laidOut, Whole, Continues};
+ghost use Rattle.answers.specs.Answers.{ofAnswer};
+ghost use Rattle.calls.specs.Checks.{ofSizeAnswer};
+ghost use Rattle.lines.specs.Line.{sizeLine, refusedLine};
+ghost use Rattle.sheet.specs.Sheet.{afterOf, behindOf, stepOf, answerLine, functionLine, lineOf, sheetFit};
+ghost use Rattle.sheet.specs.Printed.{put, putOf, shown, laidOut, Whole, SheetContinues, Countable};
 use answers::Answer;
 use answers::start;
 use calls::SizeAnswer;
@@ -95,7 +95,7 @@ fn behind(s: State, width: usize) -> State
 
 // Behind any command.
 fn after(s: State, c: Command) -> State
-    requires { ⌜ (s .at < 9223372036854775808) × (s .lines < 9223372036854775808) ⌝ }
+    requires { ⌜ Countable s ⌝ }
     ensures { λ r. ⌜ r ≡ afterOf s c ⌝ }
 {
     match c {
@@ -123,7 +123,7 @@ fn after(s: State, c: Command) -> State
 // The line of a text call, by its answer and its buffer.
 fn write_answer(line: &mut [u8], number: u64, a: Answer, text: &[u8]) -> usize
     requires { ⌜ length (now text) + 54 ≤ length (now line) ⌝ }
-    ensures { λ r. ⌜ Whole (now (line .entry)) (answerLine number (now (text .entry)) a) (now (line .exit)) r ⌝ }
+    ensures { λ r. ⌜ Whole (now (line .entry)) (answerLine number (now (text .entry)) (ofAnswer a)) (now (line .exit)) r ⌝ }
 {
     let p = start(line.len());
     match a {
@@ -141,7 +141,7 @@ fn write_answer(line: &mut [u8], number: u64, a: Answer, text: &[u8]) -> usize
 // The line of a size call.
 fn write_size(line: &mut [u8], number: u64, a: SizeAnswer) -> usize
     requires { ⌜ 74 ≤ length (now line) ⌝ }
-    ensures { λ r. ⌜ Whole (now (line .entry)) (sizeLine number (sizeGiven a)) (now (line .exit)) r ⌝ }
+    ensures { λ r. ⌜ Whole (now (line .entry)) (sizeLine number (ofSizeAnswer a)) (now (line .exit)) r ⌝ }
 {
     let p = start(line.len());
     match a {
@@ -206,8 +206,8 @@ fn function_line(
     s: State,
     index: u32,
 ) -> usize
-    requires { ⌜ (t ≡ checked Types (now types)) × ((4150 ≤ length (now line)) × ((s .at < 9223372036854775808) × (s .lines < 9223372036854775808))) ⌝ }
-    ensures { λ r. ⌜ Whole (now (line .entry)) (outcomeLine (s .lines + 1) (functionText (s .flags) (s .size) (now (types .entry)) (givenName (now (sheet .entry)) (s .at + 5)) index 4096)) (now (line .exit)) r ⌝ }
+    requires { ⌜ (t ≡ checked Types (now types)) × ((4150 ≤ length (now line)) × Countable s) ⌝ }
+    ensures { λ r. ⌜ Whole (now (line .entry)) (functionLine (now (types .entry)) (now (sheet .entry)) s index) (now (line .exit)) r ⌝ }
 {
     let mut text = [0u8; 4096];
     let name = given_name(sheet, s.at + 5);
@@ -226,7 +226,7 @@ fn line_of(
     s: State,
     c: Command,
 ) -> usize
-    requires { ⌜ (t ≡ checked Types (now types)) × ((u ≡ checked Ids (now ids)) × ((4150 ≤ length (now line)) × ((s .at < 9223372036854775808) × (s .lines < 9223372036854775808)))) ⌝ }
+    requires { ⌜ (t ≡ checked Types (now types)) × ((u ≡ checked Ids (now ids)) × ((4150 ≤ length (now line)) × Countable s)) ⌝ }
     ensures { λ r. ⌜ Whole (now (line .entry)) (lineOf (now (types .entry)) (now (ids .entry)) (now (sheet .entry)) s c) (now (line .exit)) r ⌝ }
 {
     let number = (s.lines + 1) as u64;
@@ -262,7 +262,7 @@ fn put_line(
     c: Command,
     skip: usize,
 ) -> Put
-    requires { ⌜ (t ≡ checked Types (now types)) × ((u ≡ checked Ids (now ids)) × ((p .at ≤ length (now out)) × ((s .at < 9223372036854775808) × (s .lines < 9223372036854775808)))) ⌝ }
+    requires { ⌜ (t ≡ checked Types (now types)) × ((u ≡ checked Ids (now ids)) × ((p .at ≤ length (now out)) × Countable s)) ⌝ }
     ensures { λ r. ⌜ put (page (now (out .exit)) (r .pen)) (r .full) ≡ putOf (page (now (out .entry)) p) (ltb (s .lines) skip) (lineOf (now (types .entry)) (now (ids .entry)) (now (sheet .entry)) s c) ⌝ }
 {
     if s.lines < skip {
@@ -286,8 +286,8 @@ fn put_line(
 // Prints a sheet's lines, without the first `skip` of them, as far as whole lines fit into the buffer. Each stream is checked once. A caller with more lines
 // to come prints the bytes and asks again, with as many more to skip as lines were printed.
 pub fn print_sheet(types: &[u8], ids: &[u8], sheet: &[u8], out: &mut [u8], skip: usize) -> Printed
-    ensures { λ r. ⌜ shown (now (out .exit)) r ≡ laidOut (now (out .entry)) (fit (length (now (out .entry))) (drop skip (sheetLines (now (types .entry)) (now (ids .entry)) (now (sheet .entry))))) ⌝ }
-    ensures { λ _. ⌜ Continues (sheetLines (now (types .entry)) (now (ids .entry)) (now (sheet .entry))) skip (length (now (out .entry))) (fit (length (now (out .entry))) (drop skip (sheetLines (now (types .entry)) (now (ids .entry)) (now (sheet .entry))))) ⌝ }
+    ensures { λ r. ⌜ shown (now (out .exit)) r ≡ laidOut (now (out .entry)) (sheetFit (now (types .entry)) (now (ids .entry)) (now (sheet .entry)) skip (length (now (out .entry)))) ⌝ }
+    ensures { λ _. ⌜ SheetContinues (now (types .entry)) (now (ids .entry)) (now (sheet .entry)) skip (length (now (out .entry))) ⌝ }
 {
     let t = check_stream(types, StreamKind::Types);
     let u = check_stream(ids, StreamKind::Ids);

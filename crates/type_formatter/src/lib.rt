@@ -1,9 +1,9 @@
 // The four calls: the text of a function, of an id and of a type, and the size of a type. Each checks its streams; `calls` does the rest.
 ghost use mathlib.Core.Path.{_≡_};
 ghost use lib.ListN.{length};
-ghost use Rattle.rules.specs.Call.{Demand, plainTo, functionText, functionReading, idText, idReading, typeText, typeReading, typeSize};
+ghost use Rattle.rules.specs.Call.{functionOutcome, FunctionDemand, idOutcome, IdDemand, typeOutcome, TypeDemand, sizeOutcome, ofSize, SizeFinished};
 ghost use Rattle.answers.specs.Answers.{given, laid};
-ghost use Rattle.calls.specs.Checks.{sizeGiven};
+ghost use Rattle.calls.specs.Checks.{ofSizeAnswer};
 use answers::Answer;
 use calls::SizeAnswer;
 use calls::function_over;
@@ -24,8 +24,8 @@ pub fn format_function(
     name: &[u8],
     index: TypeIndex,
 ) -> Answer
-    ensures { λ r. ⌜ given (now (out .exit)) r ≡ laid (now (out .entry)) (functionText flags size (now (types .entry)) (now (name .entry)) (index .0) (length (now (out .entry)))) ⌝ }
-    ensures { λ _. ⌜ Demand (functionText flags size (now (types .entry)) (now (name .entry)) (index .0)) (λ n. functionReading (plainTo n) flags size (now (types .entry)) (now (name .entry)) (index .0)) ⌝ }
+    ensures { λ r. ⌜ given (now (out .exit)) r ≡ laid (now (out .entry)) (functionOutcome flags size (now (types .entry)) (now (name .entry)) (index .0) (length (now (out .entry)))) ⌝ }
+    ensures { λ _. ⌜ FunctionDemand flags size (now (types .entry)) (now (name .entry)) (index .0) ⌝ }
 {
     let t = check_stream(types, StreamKind::Types);
     function_over(types, t, out, flags, size, name, index)
@@ -40,8 +40,8 @@ pub fn format_id(
     size: u32,
     index: IdIndex,
 ) -> Answer
-    ensures { λ r. ⌜ given (now (out .exit)) r ≡ laid (now (out .entry)) (idText flags size (now (types .entry)) (now (ids .entry)) (index .0) (length (now (out .entry)))) ⌝ }
-    ensures { λ _. ⌜ Demand (idText flags size (now (types .entry)) (now (ids .entry)) (index .0)) (λ n. idReading (plainTo n) flags size (now (types .entry)) (now (ids .entry)) (index .0)) ⌝ }
+    ensures { λ r. ⌜ given (now (out .exit)) r ≡ laid (now (out .entry)) (idOutcome flags size (now (types .entry)) (now (ids .entry)) (index .0) (length (now (out .entry)))) ⌝ }
+    ensures { λ _. ⌜ IdDemand flags size (now (types .entry)) (now (ids .entry)) (index .0) ⌝ }
 {
     let t = check_stream(types, StreamKind::Types);
     let u = check_stream(ids, StreamKind::Ids);
@@ -50,8 +50,8 @@ pub fn format_id(
 
 // The text of a type.
 pub fn format_type(types: &[u8], out: &mut [u8], flags: u32, size: u32, index: TypeIndex) -> Answer
-    ensures { λ r. ⌜ given (now (out .exit)) r ≡ laid (now (out .entry)) (typeText flags size (now (types .entry)) (index .0) (length (now (out .entry)))) ⌝ }
-    ensures { λ _. ⌜ Demand (typeText flags size (now (types .entry)) (index .0)) (λ n. typeReading (plainTo n) flags size (now (types .entry)) (index .0)) ⌝ }
+    ensures { λ r. ⌜ given (now (out .exit)) r ≡ laid (now (out .entry)) (typeOutcome flags size (now (types .entry)) (index .0) (length (now (out .entry)))) ⌝ }
+    ensures { λ _. ⌜ TypeDemand flags size (now (types .entry)) (index .0) ⌝ }
 {
     let t = check_stream(types, StreamKind::Types);
     type_over(types, t, out, flags, size, index)
@@ -59,7 +59,8 @@ pub fn format_type(types: &[u8], out: &mut [u8], flags: u32, size: u32, index: T
 
 // The size of a type; this call takes no flags.
 pub fn get_type_size(types: &[u8], size: u32, index: TypeIndex) -> SizeAnswer
-    ensures { λ r. ⌜ sizeGiven r ≡ typeSize size (now (types .entry)) (index .0) ⌝ }
+    ensures { λ r. ⌜ ofSizeAnswer r ≡ ofSize (sizeOutcome size (now (types .entry)) (index .0)) ⌝ }
+    ensures { λ _. ⌜ SizeFinished size (now (types .entry)) (index .0) ⌝ }
 {
     let t = check_stream(types, StreamKind::Types);
     size_over(types, t, size, index)

@@ -1,4 +1,4 @@
--- The report of an answer is the report of the outcome that it stands for, and the counts of a printed sheet are those of its lines. Assumes nothing.
+-- What is told of an answer is what its definition says, and the counts of a printed sheet are those of its lines. Assumes nothing.
 use Prim.Native.Nat.{ℕ}
 use mathlib.Core.Path.{_≡_, refl, sym, ap, _∙_}
 use mathlib.Core.Bool.{Bool}
@@ -6,19 +6,19 @@ use mathlib.Core.List.{List}
 use Rattle.wire.specs.Field.{pick}
 use Rattle.streams.specs.Refusal.{numberOf, detailOf}
 use Rattle.streams.specs.declared.refusal.Refusal.{Refusal}
-use Rattle.rules.specs.Call.{Outcome, text, stopped, Size, bufferAfter}
-use Rattle.answers.specs.Answers.{Result, given, answerOf, laid}
+use Rattle.rules.specs.Call.{Outcome, Size, Report, report, refusedBy, ofSize}
+use Rattle.answers.specs.Answers.{left, ofAnswer, given, laid}
 use Rattle.answers.specs.declared.Answer.{Answer}
 use Rattle.answers.specs.declared.Answer.the-variants as answer
-use Rattle.calls.specs.Checks.{sizeGiven}
+use Rattle.calls.specs.Checks.{ofSizeAnswer}
 use Rattle.calls.specs.declared.SizeAnswer.{SizeAnswer}
 use Rattle.calls.specs.declared.SizeAnswer.the-variants as size
 use Rattle.sheet.specs.Sheet.{Fit}
 use Rattle.sheet.specs.Printed.{Shown, shown, laidOut}
 use Rattle.sheet.specs.declared.Printed.{Printed}
-use Rattle.yokberd.specs.Report.{Report, report, refusal, ofAnswer, ofSizeAnswer, ofText, ofSize, Counts, counts, ofFit}
+use Rattle.yokberd.specs.Report.{counts, ofFit}
 
-refused : {n d : ℕ} (f : Refusal) → n ≡ numberOf f → d ≡ detailOf f → report n d 0 ≡ refusal f
+refused : {n d : ℕ} (f : Refusal) → n ≡ numberOf f → d ≡ detailOf f → report n d 0 ≡ refusedBy f
 refused f e g = rw (e, g) refl
 
 -- The cases of an answer.
@@ -38,24 +38,12 @@ pub refused-size-case : {a : SizeAnswer} {f : Refusal} {n d : ℕ} → a ≡ siz
 unfolding ofSizeAnswer
 refused-size-case {f = f} e g h = refused f g h ∙ sym (ap ofSizeAnswer e)
 
--- What a text call leaves.
-answer-report : (o : Outcome) → ofAnswer (answerOf o) ≡ ofText o
-unfolding ofAnswer answerOf ofText
-answer-report (text bs n) = refl
-answer-report (stopped f) = refl
+-- What a text call leaves, and what a size call tells.
+pub text-left : (buf out : List ℕ) (a : Answer) (o : Outcome) {r : Report} {D : Type 0} → (given out a ≡ laid buf o) × D → r ≡ ofAnswer a → (left out r ≡ laid buf o) × D
+text-left buf out a o (e, d) h = (ap (left out) h ∙ e, d)
 
-pub text-left : (buf out : List ℕ) (a : Answer) (o : Outcome) {r : Report} {D : Type 0} → (given out a ≡ laid buf o) × D → r ≡ ofAnswer a → (r ≡ ofText o) × ((out ≡ bufferAfter buf o) × D)
-unfolding laid
-text-left buf out a o (e, d) h = (h ∙ (ap (λ (r : Result). ofAnswer (r .answer)) e ∙ answer-report o), (ap (λ (r : Result). r .buf) e, d))
-
--- What a size call tells.
-size-answer : (a : SizeAnswer) → ofSizeAnswer a ≡ ofSize (sizeGiven a)
-unfolding ofSizeAnswer ofSize sizeGiven
-size-answer (size.Bytes n) = refl
-size-answer (size.Refused f) = refl
-
-pub size-report : {r : Report} (a : SizeAnswer) (s : Size) → sizeGiven a ≡ s → r ≡ ofSizeAnswer a → r ≡ ofSize s
-size-report a s e h = h ∙ (size-answer a ∙ ap ofSize e)
+pub size-report : {r : Report} (a : SizeAnswer) (s : Size) {D : Type 0} → (ofSizeAnswer a ≡ ofSize s) × D → r ≡ ofSizeAnswer a → (r ≡ ofSize s) × D
+size-report a s (e, d) h = (h ∙ e, d)
 
 -- What a sheet call leaves, by whether lines are left.
 pub sheet-left : (buf out : List ℕ) (p : Printed) (f : Fit) {b : Bool} {D : Type 0} → (shown out p ≡ laidOut buf f) × D → p .more ≡ b → (counts (pick b 1 0) (p .bytes) (p .lines) ≡ ofFit f) × ((out ≡ laidOut buf f .buf) × D)

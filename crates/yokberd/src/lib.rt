@@ -1,11 +1,13 @@
 // The calls for programs in C and Rust: each of the four calls and the sheet under its plain name, with numbers and byte slices only. What a call answers
 // beside its number goes into numbers that the caller lends. `c/yokberd.h` says the same to a C program.
 ghost use mathlib.Core.Path.{_≡_};
-ghost use lib.ListN.{length, drop};
-ghost use Rattle.rules.specs.Call.{Demand, plainTo, bufferAfter, functionText, functionReading, idText, idReading, typeText, typeReading, typeSize};
-ghost use Rattle.sheet.specs.Sheet.{fit, sheetLines};
-ghost use Rattle.sheet.specs.Printed.{laidOut, Continues};
-ghost use Rattle.yokberd.specs.Report.{report, ofAnswer, ofSizeAnswer, ofText, ofSize, counts, ofFit};
+ghost use lib.ListN.{length};
+ghost use Rattle.rules.specs.Call.{functionOutcome, FunctionDemand, idOutcome, IdDemand, typeOutcome, TypeDemand, sizeOutcome, SizeFinished, report, ofSize};
+ghost use Rattle.answers.specs.Answers.{left, ofAnswer, laid};
+ghost use Rattle.calls.specs.Checks.{ofSizeAnswer};
+ghost use Rattle.sheet.specs.Sheet.{sheetFit};
+ghost use Rattle.sheet.specs.Printed.{laidOut, SheetContinues};
+ghost use Rattle.yokberd.specs.Report.{counts, ofFit};
 use answers::Answer;
 use calls::SizeAnswer;
 use codeview::index::IdIndex;
@@ -62,9 +64,8 @@ pub extern "C" fn yokberd_format_function(
     detail: &mut u32,
     written: &mut usize,
 ) -> u32
-    ensures { λ r. ⌜ report r (now (detail .exit)) (now (written .exit)) ≡ ofText (functionText flags size (now (types .entry)) (now (name .entry)) index (length (now (out .entry)))) ⌝ }
-    ensures { λ _. ⌜ now (out .exit) ≡ bufferAfter (now (out .entry)) (functionText flags size (now (types .entry)) (now (name .entry)) index (length (now (out .entry)))) ⌝ }
-    ensures { λ _. ⌜ Demand (functionText flags size (now (types .entry)) (now (name .entry)) index) (λ n. functionReading (plainTo n) flags size (now (types .entry)) (now (name .entry)) index) ⌝ }
+    ensures { λ r. ⌜ left (now (out .exit)) (report r (now (detail .exit)) (now (written .exit))) ≡ laid (now (out .entry)) (functionOutcome flags size (now (types .entry)) (now (name .entry)) index (length (now (out .entry)))) ⌝ }
+    ensures { λ _. ⌜ FunctionDemand flags size (now (types .entry)) (now (name .entry)) index ⌝ }
 {
     let a = format_function(types, out, flags, size, name, TypeIndex(index));
     report_text(a, detail, written)
@@ -82,9 +83,8 @@ pub extern "C" fn yokberd_format_id(
     detail: &mut u32,
     written: &mut usize,
 ) -> u32
-    ensures { λ r. ⌜ report r (now (detail .exit)) (now (written .exit)) ≡ ofText (idText flags size (now (types .entry)) (now (ids .entry)) index (length (now (out .entry)))) ⌝ }
-    ensures { λ _. ⌜ now (out .exit) ≡ bufferAfter (now (out .entry)) (idText flags size (now (types .entry)) (now (ids .entry)) index (length (now (out .entry)))) ⌝ }
-    ensures { λ _. ⌜ Demand (idText flags size (now (types .entry)) (now (ids .entry)) index) (λ n. idReading (plainTo n) flags size (now (types .entry)) (now (ids .entry)) index) ⌝ }
+    ensures { λ r. ⌜ left (now (out .exit)) (report r (now (detail .exit)) (now (written .exit))) ≡ laid (now (out .entry)) (idOutcome flags size (now (types .entry)) (now (ids .entry)) index (length (now (out .entry)))) ⌝ }
+    ensures { λ _. ⌜ IdDemand flags size (now (types .entry)) (now (ids .entry)) index ⌝ }
 {
     let a = format_id(types, ids, out, flags, size, IdIndex(index));
     report_text(a, detail, written)
@@ -101,9 +101,8 @@ pub extern "C" fn yokberd_format_type(
     detail: &mut u32,
     written: &mut usize,
 ) -> u32
-    ensures { λ r. ⌜ report r (now (detail .exit)) (now (written .exit)) ≡ ofText (typeText flags size (now (types .entry)) index (length (now (out .entry)))) ⌝ }
-    ensures { λ _. ⌜ now (out .exit) ≡ bufferAfter (now (out .entry)) (typeText flags size (now (types .entry)) index (length (now (out .entry)))) ⌝ }
-    ensures { λ _. ⌜ Demand (typeText flags size (now (types .entry)) index) (λ n. typeReading (plainTo n) flags size (now (types .entry)) index) ⌝ }
+    ensures { λ r. ⌜ left (now (out .exit)) (report r (now (detail .exit)) (now (written .exit))) ≡ laid (now (out .entry)) (typeOutcome flags size (now (types .entry)) index (length (now (out .entry)))) ⌝ }
+    ensures { λ _. ⌜ TypeDemand flags size (now (types .entry)) index ⌝ }
 {
     let a = format_type(types, out, flags, size, TypeIndex(index));
     report_text(a, detail, written)
@@ -118,7 +117,8 @@ pub extern "C" fn yokberd_get_type_size(
     detail: &mut u32,
     bytes: &mut u64,
 ) -> u32
-    ensures { λ r. ⌜ report r (now (detail .exit)) (now (bytes .exit)) ≡ ofSize (typeSize size (now (types .entry)) index) ⌝ }
+    ensures { λ r. ⌜ report r (now (detail .exit)) (now (bytes .exit)) ≡ ofSize (sizeOutcome size (now (types .entry)) index) ⌝ }
+    ensures { λ _. ⌜ SizeFinished size (now (types .entry)) index ⌝ }
 {
     let a = get_type_size(types, size, TypeIndex(index));
     report_size(a, detail, bytes)
@@ -135,9 +135,9 @@ pub extern "C" fn yokberd_print_sheet(
     bytes: &mut usize,
     lines: &mut usize,
 ) -> u32
-    ensures { λ r. ⌜ counts r (now (bytes .exit)) (now (lines .exit)) ≡ ofFit (fit (length (now (out .entry))) (drop skip (sheetLines (now (types .entry)) (now (ids .entry)) (now (sheet .entry))))) ⌝ }
-    ensures { λ _. ⌜ now (out .exit) ≡ laidOut (now (out .entry)) (fit (length (now (out .entry))) (drop skip (sheetLines (now (types .entry)) (now (ids .entry)) (now (sheet .entry))))) .buf ⌝ }
-    ensures { λ _. ⌜ Continues (sheetLines (now (types .entry)) (now (ids .entry)) (now (sheet .entry))) skip (length (now (out .entry))) (fit (length (now (out .entry))) (drop skip (sheetLines (now (types .entry)) (now (ids .entry)) (now (sheet .entry))))) ⌝ }
+    ensures { λ r. ⌜ counts r (now (bytes .exit)) (now (lines .exit)) ≡ ofFit (sheetFit (now (types .entry)) (now (ids .entry)) (now (sheet .entry)) skip (length (now (out .entry)))) ⌝ }
+    ensures { λ _. ⌜ now (out .exit) ≡ laidOut (now (out .entry)) (sheetFit (now (types .entry)) (now (ids .entry)) (now (sheet .entry)) skip (length (now (out .entry)))) .buf ⌝ }
+    ensures { λ _. ⌜ SheetContinues (now (types .entry)) (now (ids .entry)) (now (sheet .entry)) skip (length (now (out .entry))) ⌝ }
 {
     let p = print_sheet(types, ids, sheet, out, skip);
     *bytes = p.bytes;

@@ -1,7 +1,9 @@
--- The check of the stream is handed on as it came.
+-- The check of the stream is handed on as it came; that the walk ends is a theorem of the rules.
 -- Assumes nothing.
 use borrow.Author.Needs.{needs}
-use mathlib.Core.Path.{_∙_}
+use mathlib.Core.Path.{_∙_, ap}
+use Rattle.rules.specs.Call.{ofSize}
+use Rattle.rules.proofs.Demand.{size-ends}
 use Rattle.type_formatter.proofs.Laws.{size-checked}
 use Rattle.type_formatter.proofs.get_type_size.Statement.{statement}
 use Rattle.type_formatter.proofs.get_type_size.Tie as tie
@@ -17,7 +19,7 @@ size-over-requires : tie.Need-size-over-requires
 size-over-requires c κs = search needs
 
 returns : tie.Need-returns
-returns c = c .size-over .ensures ∙ size-checked _ (c .before .check-stream .ensures) _ _
+returns c = (c .size-over .ensures ∙ ap ofSize (size-checked _ (c .before .check-stream .ensures) _ _), size-ends _ _ _)
 
 pub get-type-size-spec : {M : Type 1} → statement M
 get-type-size-spec = tie.close (tie.spec check-stream-requires size-over-requires returns)

@@ -1,7 +1,7 @@
 -- The pieces of the line after each other.
 -- Assumes nothing.
 use Rattle.pen.proofs.Laws.{_▹_, wrote-length}
-use Rattle.lines.specs.Line.{textLine}
+use Rattle.lines.specs.Line.{toldLine, textLine}
 use borrow.Author.Needs.{needs}
 use Rattle.lines.proofs.line.emit_size.Statement.{statement}
 use Rattle.lines.proofs.line.emit_size.Tie as tie
@@ -30,7 +30,7 @@ text-requires-2 : tie.Need-text-requires-2
 text-requires-2 c κs = search needs
 
 returns : tie.Need-returns
-unfolding textLine
+unfolding textLine toldLine
 returns c = c .before .before .before .before .before .before .before .before .before .before .before .before .before .before .before .before .emit-head .ensures ▹ c .before .before .before .before .before .before .before .before .before .before .before .text .ensures ▹ c .before .before .before .before .before .before .before .decimal .ensures ▹ c .before .before .text2 .ensures
 
 same-length : tie.Need-same-length

@@ -1,7 +1,7 @@
 -- The pieces of the line after each other.
 -- Assumes nothing.
 use Rattle.pen.proofs.Laws.{_▹_, wrote-length}
-use Rattle.lines.specs.Line.{textLine}
+use Rattle.lines.specs.Line.{toldLine, textLine}
 use borrow.Author.Needs.{needs}
 use Rattle.lines.proofs.line.emit_text.Statement.{statement}
 use Rattle.lines.proofs.line.emit_text.Tie as tie
@@ -29,7 +29,7 @@ text-requires-3 : tie.Need-text-requires-3
 text-requires-3 c κs = search needs
 
 returns : tie.Need-returns
-unfolding textLine
+unfolding textLine toldLine
 returns c = c .before .before .before .before .before .before .before .before .before .before .before .before .before .before .before .before .emit-head .ensures ▹ c .before .before .before .before .before .before .before .before .before .before .before .text .ensures ▹ c .before .before .before .before .before .before .before .text2 .ensures ▹ c .before .before .text3 .ensures
 
 same-length : tie.Need-same-length
