@@ -81,15 +81,15 @@ refusal-is {f} {buf} e w = answered e w ∙ ap (laid buf) (refusal-within (lengt
 
 -- A text call's answer, by what its checks came to: `k` is what is walked over the call that they give.
 module _ (k : Call → Trace Refusal) {r s : Checked} (e : s ≡ r) where
-  good-is : {c : Call} {buf b : List ℕ} {p q : Pen} → s ≡ Good c → p ≡ started (length buf) → Wrote (page buf p) (k c) (page b q) → closed b q ≡ laid buf (within (length buf) (performed r k))
-  good-is {c} f g w = let h : r ≡ Good c = sym e ∙ f in rw h (answered g w)
+  good-is : {c : Call} {buf b : List ℕ} {p q : Pen} → s ≡ Good c → Wrote (page buf p) (k c) (page b q) → p ≡ started (length buf) → closed b q ≡ laid buf (within (length buf) (performed r k))
+  good-is {c} f w g = let h : r ≡ Good c = sym e ∙ f in rw h (answered g w)
 
   refused-is : (buf : List ℕ) {f : Refusal} → s ≡ Refused f → laid buf (stopped f) ≡ laid buf (within (length buf) (performed r k))
   refused-is buf {f} g = let h : r ≡ Refused f = sym e ∙ g in rw h (ap (laid buf) (sym (refusal-within (length buf) f)))
 
 module _ (t : StreamCheck) (flags size : ℕ) (types : List ℕ) {r : Checked} where
   module _ (e : r ≡ callBy t flags size) (i : ℕ) where
-    pub type-is : {c : Call} {buf b : List ℕ} {p q : Pen} → r ≡ Good c → p ≡ started (length buf) → Wrote (page buf p) (taken types [] (byItself i) c) (page b q)
+    pub type-is : {c : Call} {buf b : List ℕ} {p q : Pen} → r ≡ Good c → Wrote (page buf p) (taken types [] (byItself i) c) (page b q) → p ≡ started (length buf)
         → closed b q ≡ laid buf (typeOver t flags size types i (length buf))
     unfolding typeOver
     type-is = good-is (taken types [] (byItself i)) e
@@ -98,7 +98,7 @@ module _ (t : StreamCheck) (flags size : ℕ) (types : List ℕ) {r : Checked} w
     unfolding typeOver
     type-refused buf = refused-is (taken types [] (byItself i)) e buf
 
-    pub function-is : (name : List ℕ) {c : Call} {buf b : List ℕ} {p q : Pen} → r ≡ Good c → p ≡ started (length buf) → Wrote (page buf p) (taken types [] (functionOf i name) c) (page b q)
+    pub function-is : (name : List ℕ) {c : Call} {buf b : List ℕ} {p q : Pen} → r ≡ Good c → Wrote (page buf p) (taken types [] (functionOf i name) c) (page b q) → p ≡ started (length buf)
         → closed b q ≡ laid buf (functionOver t flags size types name i (length buf))
     unfolding functionOver
     function-is name = good-is (taken types [] (functionOf i name)) e
@@ -108,7 +108,7 @@ module _ (t : StreamCheck) (flags size : ℕ) (types : List ℕ) {r : Checked} w
     function-refused name buf = refused-is (taken types [] (functionOf i name)) e buf
 
   module _ (u : StreamCheck) (ids : List ℕ) (e : r ≡ idsBy t u flags size) (i : ℕ) where
-    pub id-is : {c : Call} {buf b : List ℕ} {p q : Pen} → r ≡ Good c → p ≡ started (length buf) → Wrote (page buf p) (taken types ids (idOf i) c) (page b q)
+    pub id-is : {c : Call} {buf b : List ℕ} {p q : Pen} → r ≡ Good c → Wrote (page buf p) (taken types ids (idOf i) c) (page b q) → p ≡ started (length buf)
         → closed b q ≡ laid buf (idOver t u flags size types ids i (length buf))
     unfolding idOver
     id-is = good-is (taken types ids (idOf i)) e

@@ -61,6 +61,6 @@ pub record Continues (all : List (List ℕ)) (skip room : ℕ) (f : Fit) : Type 
 abbrev pub SheetContinues : List ℕ → List ℕ → List ℕ → ℕ → ℕ → Type 0
 SheetContinues types ids sheet skip room = Continues (sheetLines types ids sheet) skip room (sheetFit types ids sheet skip room)
 
--- A state whose place and lines can be counted on.
+-- A state whose place and lines are far below 2^64, so that they can be counted further.
 abbrev pub Countable : State → Type 0
 Countable s = (s .at < 9223372036854775808) × (s .lines < 9223372036854775808)

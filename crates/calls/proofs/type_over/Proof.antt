@@ -47,7 +47,7 @@ same-length : tie.Need-same-length
 same-length c = search needs
 
 returns : tie.Need-returns
-returns c = c .before .before .close .ensures ∙ type-is _ _ _ _ (c .before .before .before .before .before .before .before .before .before .before .before .before .before .before .check-call .ensures) _ (c .before .before .before .before .before .before .before .before .before .before .before .before .call .given .1) (c .before .before .before .before .before .before .before .before .before .before .start .ensures) (c .before .before .before .before .before .before .emit-type-index .ensures)
+returns c = c .before .before .close .ensures ∙ type-is _ _ _ _ (c .before .before .before .before .before .before .before .before .before .before .before .before .before .before .check-call .ensures) _ (c .before .before .before .before .before .before .before .before .before .before .before .before .call .given .1) (c .before .before .before .before .before .before .emit-type-index .ensures) (c .before .before .before .before .before .before .before .before .before .before .start .ensures)
 
 same-length-2 : tie.Need-same-length-2
 same-length-2 c = search needs
