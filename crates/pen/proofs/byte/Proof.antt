@@ -29,7 +29,7 @@ same-length : tie.Need-same-length
 same-length c = search needs
 
 returns : tie.Need-returns
-returns c = put-stored _ _ _ _ (cc) (cc) (search needs)
+returns c = put-stored (c .before .before .before .before .before .before .before .before .args .out .now) _ (c .before .before .before .before .before .before .before .before .args .p) (c .before .before .before .before .before .before .before .before .args .b) (c .before .before .store .ensures) (cc) (search needs)
 
 returns-2 : tie.Need-returns-2
 returns-2 c = ap (page _) (c .gone .ensures) ∙ sym (put-full _ _ _ (cc) (c .before .if1 .left))
