@@ -8,7 +8,7 @@ use lib.ListN.{length}
 use native.Mathlib.Omega.{arith}
 use borrow.Author.Tests.{eq-eqb, ne-eqb}
 use denote.Enum.Declared.{tagOf}
-use package.types.Run.{OneOf}
+use package.types.Run.{OneOf, miss}
 use Rattle.streams.specs.declared.refusal.Refusal.{Refusal}
 use Rattle.streams.specs.declared.stream.Stream.{Stream}
 use Rattle.codeview.specs.Read.{readType}
@@ -18,7 +18,6 @@ use Rattle.codeview.specs.declared.record.TypeData.the-variants as type
 use Rattle.codeview.specs.declared.record.TypeRead.{TypeRead}
 use Rattle.codeview.specs.declared.record.TypeRead.the-variants as typeRead
 use Rattle.codeview.proofs.record.TypeData.{the-type}
-use Rattle.codeview.proofs.Tags.{by-tag}
 use Rattle.reading.specs.Trace.{Trace, tr, count, prefix, halted, long, limit, call, exec, Held}
 use Rattle.reading.proofs.Laws.{walk-through}
 use Rattle.rules.specs.Flags.{Settings}

@@ -53,15 +53,6 @@ hasIndex i (k ∷ o) = eqb (k .index) i || hasIndex i o
 unfoldable pub holding : Call → List ℕ → Held
 holding c seen = held (c .chain) (keysOf seen)
 
--- The number of the refusal where an index is opened, and 0 where it may be.
-unfoldable pub entryNo : List Key → ℕ → ℕ
-entryNo o i = pick (hasIndex i o) 12 (pick (leb 96 (length o)) 13 0)
-
--- What `entry` gives: the number, and that there is room where it is 0.
-pub record Entering (seen : List ℕ) (i r : ℕ) : Type 0 where
-  pub number : r ≡ entryNo (keysOf seen) i
-  pub free : r ≡ 0 → length seen < 96
-
 -- The pointer levels, the innermost first.
 abbrev pub levelOf : PtrAttributes → Level
 levelOf l = level (l .constant) (l .pointee) (l .mode)

@@ -4,13 +4,13 @@ use mathlib.Core.Path.{_≡_, refl, ap, ap₂, sym, _∙_}
 use mathlib.Core.List.{List, [], _∷_, _++_, append-assoc}
 use mathlib.Core.Bool.{Bool, true, false, _||_, _&&_}
 use lib.Dec.{eqb, leb}
-use lib.ListN.{length}
+use lib.ListN.{length, take}
 use native.Mathlib.Nat.{zero-add}
 use native.Mathlib.Numerals.{add-one}
 use native.Mathlib.Omega.{arith}
 use borrow.Author.Tests.{eq-eqb, ne-eqb}
 use denote.Enum.Declared.{tagOf}
-use package.types.Run.{OneOf, miss}
+use package.types.Run.{OneOf}
 use Rattle.wire.specs.Field.{pick, number}
 use Rattle.wire.specs.Text.{bytes}
 use Rattle.streams.specs.Refusal.{numberOf, detailOf}
@@ -30,6 +30,7 @@ use Rattle.codeview.specs.declared.record.TypeData.the-variants as type
 use Rattle.codeview.specs.declared.record.TypeRead.{TypeRead}
 use Rattle.codeview.specs.declared.record.TypeRead.the-variants.{Good, Refused}
 use Rattle.codeview.proofs.record.TypeData.{the-type}
+use Rattle.codeview.proofs.Tags.{by-tag}
 use Rattle.reading.specs.Trace.{
   Mark,
   Count,
@@ -66,7 +67,6 @@ use Rattle.reading.specs.Trace.{
   after,
 }
 use Rattle.reading.specs.Trace as trace
-use Rattle.reading.proofs.Laws.{walk-through, walk-again, walk-deep, walk-open}
 use Rattle.rules.specs.Flags.{Settings}
 use Rattle.rules.specs.Record.{
   Record,
@@ -110,6 +110,7 @@ use Rattle.rules.specs.Rules.{
   procedureResult,
   returned,
   methodArguments,
+  listed,
   entries,
   namedText,
   typeText,
@@ -130,14 +131,21 @@ use Rattle.rules.specs.Rules.{
   walked,
   ruled,
 }
-use Rattle.rules.proofs.Rank.{ranked}
-use Rattle.pen.specs.Page.{Page, Wrote, run, idle, say, step, opened, barred, unreadTrace, last, _⨾_, ending, marking}
+use Rattle.pen.specs.declared.Pen.{Pen}
+use Rattle.pen.specs.Page.{Page, page, Wrote, run, idle, say, step, unreadTrace, last, _⨾_, ending, marking}
 use Rattle.pen.proofs.Laws.{_▹_, _▸_, wrote-as, wrote-step, wrote-idle, wrote-same, wrote-by, prefix-none}
 use Rattle.context.specs.declared.flags.Call.{Call}
-use Rattle.context.specs.Context.{settingsOf, tableIn, keysOf, hasIndex, holding, entryNo, Entering, sizesOf}
-use Rattle.context.proofs.Laws.{keys-push}
+use Rattle.context.specs.declared.seen.Way.{Way}
+use Rattle.context.specs.declared.seen.Way.the-variants as way
+use Rattle.context.specs.declared.seen.Opening.{Opening}
+use Rattle.context.specs.declared.seen.Opening.the-variants as opening
+use Rattle.context.specs.declared.seen.TypeOpening.{TypeOpening}
+use Rattle.context.specs.declared.seen.TypeOpening.the-variants as typeOpening
+use Rattle.context.specs.Context.{settingsOf, tableIn, holding, sizesOf}
+use Rattle.context.specs.Opening.{wayOf, Opens, OpensType}
+use Rattle.context.proofs.Opening.{In, in-length, ruled-pick, unread-is, read-good, read-bad, walk-on, open-in, opened-then, stopped-then, type-stopped, type-open}
 use Rattle.writers.specs.Writers.{markTrace}
-use Rattle.pieces.specs.Pieces.{commaText, recordText, isSign}
+use Rattle.pieces.specs.Pieces.{recordText, isSign}
 use Rattle.methods.specs.This.{thisOf, byThis}
 use Rattle.methods.specs.declared.ThisRead.{ThisRead}
 use Rattle.methods.specs.declared.ThisRead.the-variants as this
@@ -149,7 +157,14 @@ use Rattle.arrays.specs.declared.ArrayInfo.{ArrayInfo}
 use Rattle.sizes.specs.Sizes.{Sizes, sizeTrace}
 use Rattle.sizes.specs.declared.SizeRead.{SizeRead}
 use Rattle.sizes.specs.declared.SizeRead.the-variants as sized
-use Rattle.emit.specs.Walking.{methodOf, behind}
+use Rattle.emit.specs.Walking.{methodOf, behind, aimedAt, wayTo, aimedRule}
+
+-- What is lent on once an index is open.
+pub in-lent : {p : Pen} {o : List ℕ} {w : Way} {i : ℕ} {l : List ℕ} {q : Pen} {n : ℕ} → In p o w i l q n → n ≡ length (take n l)
+in-lent k = k .many ∙ sym (in-length k)
+
+pub in-fits : {p : Pen} {o : List ℕ} {w : Way} {i : ℕ} {l : List ℕ} {q : Pen} {n : ℕ} → In p o w i l q n → n ≤ length l
+in-fits k = omega (arith, k .many, k .few, k .all)
 
 -- Taking up records without opening them changes nothing of a page.
 wrote-taken : {g : Page} (k : ℕ) → Wrote g (tr [] done [] (count 0 k)) g
@@ -197,23 +212,7 @@ in-turn (tr bs (refused r) ns c) u v = refl
 in-turn (tr bs (halted x) ns c) u v = refl
 in-turn (tr bs trace.unfinished ns c) u v = refl
 
--- An index is open whatever the way.
-open-is : (w i : ℕ) (o : List Key) → isOpen sameIndex (key w i) o ≡ hasIndex i o
-unfolding isOpen sameIndex hasIndex
-open-is w i [] = refl
-open-is w i (k ∷ o) = ap (λ b. eqb (k .index) i || b) (open-is w i o)
-
--- An index taken up and opened.
-opened-twice : (t : Trace Refusal) → prefix [] [] (count 1 1) t ≡ prefix [] [] (count 0 1) (prefix [] [] (count 1 0) t)
-opened-twice (tr bs e ns c) =
-    let a : 1 + c .opened ≡ 0 + (1 + c .opened) = omega arith in
-    let b : 1 + c .taken ≡ 1 + (0 + c .taken) = omega arith in
-    ap₂ (λ (i j : ℕ). tr bs e ns (count i j)) a b
-
--- The tags of the kinds at which a match ends in its last arm.
-abbrev pub noPointer : List ℕ
-noPointer = 0 ∷ 1 ∷ 3 ∷ 4 ∷ 5 ∷ 6 ∷ 7 ∷ 8 ∷ 9 ∷ 10 ∷ 11 ∷ []
-
+-- The tags of the kinds at which a match ends in its last arm, and what is left of the rules for these kinds.
 abbrev pub noPointerModifier : List ℕ
 noPointerModifier = 0 ∷ 3 ∷ 4 ∷ 5 ∷ 6 ∷ 7 ∷ 8 ∷ 9 ∷ 10 ∷ 11 ∷ []
 
@@ -229,115 +228,36 @@ noList = 0 ∷ 1 ∷ 2 ∷ 3 ∷ 4 ∷ 6 ∷ 7 ∷ 8 ∷ 9 ∷ 10 ∷ 11 ∷ []
 abbrev pub onlyNamed : List ℕ
 onlyNamed = 6 ∷ 8 ∷ 9 ∷ 10 ∷ 11 ∷ []
 
--- The rules by kind: what is left where the kinds that they name are out.
-module _ (c : Settings) (s : List ℕ) (ls : List Level) where
-  aimed-other : (t : TypeData) → OneOf noPointerModifier (tagOf the-type t) → aimed c ls (typeContents s t) ≡ pointed c ls (typeContents s t)
-  unfolding aimed typeContents
-  aimed-other (type.Primitive p) n = refl
-  aimed-other (type.Modifier m) n = absurd (miss noPointerModifier 1 tt n)
-  aimed-other (type.Pointer p) n = absurd (miss noPointerModifier 2 tt n)
-  aimed-other (type.Procedure p) n = refl
-  aimed-other (type.MemberFunction m) n = refl
-  aimed-other (type.ArgumentList e) n = refl
-  aimed-other (type.Enumerate e) n = refl
-  aimed-other (type.Array a) n = refl
-  aimed-other (type.Class k) n = refl
-  aimed-other (type.Union u) n = refl
-  aimed-other (type.Enumeration e) n = refl
-  aimed-other (type.Unhandled k) n = refl
-
-  again-other : (t : TypeData) → OneOf noPointer (tagOf the-type t) → aimedAgain c ls (typeContents s t) ≡ pointed c ls (typeContents s t)
-  unfolding aimedAgain typeContents
-  again-other (type.Primitive p) n = refl
-  again-other (type.Modifier m) n = refl
-  again-other (type.Pointer p) n = absurd (miss noPointer 2 tt n)
-  again-other (type.Procedure p) n = refl
-  again-other (type.MemberFunction m) n = refl
-  again-other (type.ArgumentList e) n = refl
-  again-other (type.Enumerate e) n = refl
-  again-other (type.Array a) n = refl
-  again-other (type.Class k) n = refl
-  again-other (type.Union u) n = refl
-  again-other (type.Enumeration e) n = refl
-  again-other (type.Unhandled k) n = refl
-
-  pointed-plain : (t : TypeData) → OneOf noFunction (tagOf the-type t) → pointed c ls (typeContents s t) ≡ behind c ls (typeContents s t)
-  unfolding pointed typeContents
-  pointed-plain (type.Primitive p) n = refl
-  pointed-plain (type.Modifier m) n = refl
-  pointed-plain (type.Pointer p) n = refl
-  pointed-plain (type.Procedure p) n = absurd (miss noFunction 3 tt n)
-  pointed-plain (type.MemberFunction m) n = absurd (miss noFunction 4 tt n)
-  pointed-plain (type.ArgumentList e) n = refl
-  pointed-plain (type.Enumerate e) n = refl
-  pointed-plain (type.Array a) n = refl
-  pointed-plain (type.Class k) n = refl
-  pointed-plain (type.Union u) n = refl
-  pointed-plain (type.Enumeration e) n = refl
-  pointed-plain (type.Unhandled k) n = refl
-
 module _ (c : Settings) (s : List ℕ) where
+  aimed-other : (ls : List Level) (m : Bool) (t : TypeData) → OneOf noPointerModifier (tagOf the-type t) → aimedRule c m ls (typeContents s t) ≡ pointed c ls (typeContents s t)
+  unfolding aimed aimedAgain typeContents
+  aimed-other ls true = by-tag noPointerModifier (λ t. aimedRule c true ls (typeContents s t) ≡ pointed c ls (typeContents s t)) search
+  aimed-other ls false = by-tag noPointerModifier (λ t. aimedRule c false ls (typeContents s t) ≡ pointed c ls (typeContents s t)) search
+
+  pointed-plain : (ls : List Level) (t : TypeData) → OneOf noFunction (tagOf the-type t) → pointed c ls (typeContents s t) ≡ behind c ls (typeContents s t)
+  unfolding pointed typeContents
+  pointed-plain ls = by-tag noFunction (λ t. pointed c ls (typeContents s t) ≡ behind c ls (typeContents s t)) search
+
   modified-other : (b : Bool) (t : TypeData) → OneOf noPointerPrimitive (tagOf the-type t) → modifiedText c b (typeContents s t) ≡ seq (write (pick b (bytes "const ") [])) (texted (typeText c (typeContents s t)))
   unfolding modifiedText typeContents
-  modified-other b (type.Primitive p) n = absurd (miss noPointerPrimitive 0 tt n)
-  modified-other b (type.Modifier m) n = refl
-  modified-other b (type.Pointer p) n = absurd (miss noPointerPrimitive 2 tt n)
-  modified-other b (type.Procedure p) n = refl
-  modified-other b (type.MemberFunction m) n = refl
-  modified-other b (type.ArgumentList e) n = refl
-  modified-other b (type.Enumerate e) n = refl
-  modified-other b (type.Array a) n = refl
-  modified-other b (type.Class k) n = refl
-  modified-other b (type.Union u) n = refl
-  modified-other b (type.Enumeration e) n = refl
-  modified-other b (type.Unhandled k) n = refl
+  modified-other b = by-tag noPointerPrimitive (λ t. modifiedText c b (typeContents s t) ≡ seq (write (pick b (bytes "const ") [])) (texted (typeText c (typeContents s t)))) search
 
   list-other : (T : Table) (q : Method) (b : Bool) (t : TypeData) → OneOf noList (tagOf the-type t) → methodList c T q b (typeContents s t) ≡ refuse (ArgumentTypeNotArgumentList (q .list))
   unfolding methodList typeContents
-  list-other T q b (type.Primitive p) n = refl
-  list-other T q b (type.Modifier m) n = refl
-  list-other T q b (type.Pointer p) n = refl
-  list-other T q b (type.Procedure p) n = refl
-  list-other T q b (type.MemberFunction m) n = refl
-  list-other T q b (type.ArgumentList e) n = absurd (miss noList 5 tt n)
-  list-other T q b (type.Enumerate e) n = refl
-  list-other T q b (type.Array a) n = refl
-  list-other T q b (type.Class k) n = refl
-  list-other T q b (type.Union u) n = refl
-  list-other T q b (type.Enumeration e) n = refl
-  list-other T q b (type.Unhandled k) n = refl
+  list-other T q b = by-tag noList (λ t. methodList c T q b (typeContents s t) ≡ refuse (ArgumentTypeNotArgumentList (q .list))) search
 
   named-only : (t : TypeData) → OneOf onlyNamed (tagOf the-type t) → typeText c (typeContents s t) ≡ write (recordText c s t)
   unfolding typeText typeContents recordText
-  named-only (type.Primitive p) n = absurd (miss onlyNamed 0 tt n)
-  named-only (type.Modifier m) n = absurd (miss onlyNamed 1 tt n)
-  named-only (type.Pointer p) n = absurd (miss onlyNamed 2 tt n)
-  named-only (type.Procedure p) n = absurd (miss onlyNamed 3 tt n)
-  named-only (type.MemberFunction m) n = absurd (miss onlyNamed 4 tt n)
-  named-only (type.ArgumentList e) n = absurd (miss onlyNamed 5 tt n)
-  named-only (type.Enumerate e) n = refl
-  named-only (type.Array a) n = absurd (miss onlyNamed 7 tt n)
-  named-only (type.Class k) n = refl
-  named-only (type.Union u) n = refl
-  named-only (type.Enumeration e) n = refl
-  named-only (type.Unhandled k) n = refl
+  named-only = by-tag onlyNamed (λ t. typeText c (typeContents s t) ≡ write (recordText c s t)) search
 
--- The walk of what was not read, and of a choice.
+-- The walk of what was not read by itself, and of the parts of a type's text.
 module _ (c : Settings) (t : Table) (h : Held) where
-  ruled-pick : (b : Bool) (p q : Rule) → ruled c t h (pick b p q) ≡ pick b (ruled c t h p) (ruled c t h q)
-  ruled-pick true p q = refl
-  ruled-pick false p q = refl
-
-  pub unread-is : (f : Refusal) → unreadTrace f ≡ ruled c t h (unread f)
-  unfolding unread unreadTrace ruled exec
-  unread-is f = sym (ruled-pick (eqb (numberOf f) 8) (trace.miss (detailOf f)) (refuse f))
-
   pub marked-is : (f : Refusal) → markTrace f ≡ ruled c t h (marked f)
   unfolding marked markTrace ruled exec
   marked-is f =
       sym
-      (ruled-pick (eqb (numberOf f) 8) _ _
-      ∙ ap (λ (x : Trace Refusal). pick (eqb (numberOf f) 8) (say (missingMark (detailOf f))) x) (ruled-pick (eqb (numberOf f) 7) _ _))
+      (ruled-pick c t h (eqb (numberOf f) 8) _ _
+      ∙ ap (λ (x : Trace Refusal). pick (eqb (numberOf f) 8) (say (missingMark (detailOf f))) x) (ruled-pick c t h (eqb (numberOf f) 7) _ _))
 
   -- A type's text, with the mark where an index was missing.
   pub text-is : (p : Rule) → marking (ruled c t h p) (λ i. say (missingMark i)) ≡ ruled c t h (texted p)
@@ -400,15 +320,15 @@ module _ (c : Settings) (t : Table) (h : Held) where
       (λ bs. tr (levels c true (endsSigned bs) ls) done [] (count 0 0))
       (λ bs. ap (λ b. tr (levels c true b ls) done [] (count 0 0)) (sym (ends-signed bs)))
 
-  -- The entries of a list.
-  pub entries-none : (b : Bool) → say [] ≡ ruled c t h (entries c b [])
-  unfolding ruled exec entries
-  entries-none b = refl
+  -- The entries of a list, whatever stands between them.
+  entries-none : (sep : List ℕ) (b : Bool) → say [] ≡ ruled c t h (listed sep b [])
+  unfolding ruled exec listed
+  entries-none sep b = refl
 
-  pub entries-more : (b : Bool) (a : ℕ) (al : List ℕ)
-      → say (commaText c b) ⨾ walked c t h (byItself a) ⨾ ruled c t h (entries c true al) ≡ ruled c t h (entries c b (a ∷ al))
-  unfolding ruled exec entries commaText _⨾_
-  entries-more b a al = refl
+  entries-more : (sep : List ℕ) (b : Bool) (a : ℕ) (al : List ℕ)
+      → say (pick b sep []) ⨾ walked c t h (byItself a) ⨾ ruled c t h (listed sep true al) ≡ ruled c t h (listed sep b (a ∷ al))
+  unfolding ruled exec listed _⨾_
+  entries-more sep b a al = refl
 
   -- What follows from the this pointer.
   pub given-is : (m : Method) (list : List ℕ) (closes constant shut : Bool) → shut ≡ closes && constant
@@ -438,169 +358,75 @@ module _ (s d : List ℕ) (call : Call) (o : List ℕ) where
   abbrev h : Held
   h = holding call o
 
-  -- What was read.
-  pub read-good : (i : ℕ) (r : TypeRead) (x : TypeData) → r ≡ readType s (call .types) i → r ≡ Good x → t .types i ≡ good (typeContents s x)
-  unfolding tableIn tableOf typeReading
-  read-good i r x e f = let k : readType s (call .types) i ≡ Good x = cc in rw k
-
-  pub read-bad : (i : ℕ) (r : TypeRead) (f : Refusal) → r ≡ readType s (call .types) i → r ≡ Refused f → t .types i ≡ bad f
-  unfolding tableIn tableOf typeReading
-  read-bad i r f e g = let k : readType s (call .types) i ≡ Refused f = cc in rw k
-
-  -- An index that is opened, or not: for every task that opens one.
-  out-at : (x y : Bool) (q : Task) (w i nr : ℕ) → hasIndex i (keysOf o) ≡ x → leb 96 (length (keysOf o)) ≡ y → entryOf c t q ≡ opens (key w i)
-      → nr ≡ pick x 12 (pick y 13 0) → (nr ≡ 0 → ⊥) → tr [] (barred (eqb nr 12) i) [] (count 0 1) ≡ walked c t h q
-  unfolding walked holding barred
-  out-at true y q w i nr a b e f g = rw f (walk-again sameIndex (entryOf c t) (body c t) rank (ranked c t) h q (key w i) e (open-is w i (keysOf o) ∙ a))
-  out-at false true q w i nr a b e f g =
-      rw f (walk-deep sameIndex (entryOf c t) (body c t) rank (ranked c t) h q (key w i) e (open-is w i (keysOf o) ∙ a) b)
-  out-at false false q w i nr a b e f g = absurd (g f)
-
-  walk-out : (q : Task) (w i nr : ℕ) → entryOf c t q ≡ opens (key w i) → Entering o i nr → (nr ≡ 0 → ⊥)
-      → tr [] (barred (eqb nr 12) i) [] (count 0 1) ≡ walked c t h q
-  unfolding entryNo
-  walk-out q w i nr e f g = out-at (hasIndex i (keysOf o)) (leb 96 (length (keysOf o))) q w i nr refl refl e (f .number) g
-
-  in-at : (x y : Bool) (q : Task) (w i nr : ℕ) (m : List ℕ) (p : Rule) → hasIndex i (keysOf o) ≡ x → leb 96 (length (keysOf o)) ≡ y
-      → entryOf c t q ≡ opens (key w i) → nr ≡ pick x 12 (pick y 13 0) → nr ≡ 0 → keysOf m ≡ key w i ∷ keysOf o → body c t q ≡ p
-      → opened ⨾ ruled c t (holding call m) p ≡ walked c t h q
-  unfolding walked ruled holding opened _⨾_
-  in-at true y q w i nr m p a b e f g z k = absurd (omega arith)
-  in-at false true q w i nr m p a b e f g z k = absurd (omega arith)
-  in-at false false q w i nr m p a b e f g z k =
-      rw (z, ← k) (opened-twice (exec strict (λ u. walked c t (held (call .chain) (key w i ∷ keysOf o)) u) (body c t q)) ∙ walk-open sameIndex (entryOf c t) (body c t) rank (ranked c t) h q (key w i) e (open-is w i (keysOf o) ∙ a) b)
-
-  pub walk-in : (q : Task) (w i nr : ℕ) (m : List ℕ) (p : Rule) → entryOf c t q ≡ opens (key w i) → Entering o i nr → nr ≡ 0 → i < 4_294_967_296
-      → m ≡ (w * 4_294_967_296 + i) ∷ o → body c t q ≡ p → opened ⨾ ruled c t (holding call m) p ≡ walked c t h q
-  unfolding entryNo
-  walk-in q w i nr m p e f g b z k =
-      in-at (hasIndex i (keysOf o)) (leb 96 (length (keysOf o))) q w i nr m p refl refl e (f .number) g (keys-push o m w i b z) k
-
-  pub walk-on : (q : Task) (p : Rule) → entryOf c t q ≡ through → body c t q ≡ p → step ⨾ ruled c t h p ≡ walked c t h q
-  unfolding walked ruled step _⨾_
-  walk-on q p e k = rw (← k) (walk-through sameIndex (entryOf c t) (body c t) rank (ranked c t) h q e)
-
-  -- An index by itself.
+  -- An index by itself: what cannot be read is its mark; what can be read is opened then.
   pub self-bad : (i : ℕ) (r : TypeRead) (f : Refusal) → r ≡ readType s (call .types) i → r ≡ Refused f → step ⨾ markTrace f ≡ walked c t h (byItself i)
   unfolding entryOf body afterRead alone
   self-bad i r f e g =
-      let k : t .types i ≡ bad f = read-bad i r f e g in
-      ap (λ (x : Trace Refusal). step ⨾ x) (marked-is c t h f) ∙ walk-on (byItself i) (marked f) (rw k) (rw k)
+      let k : t .types i ≡ bad f = read-bad s d call o i r f e g in
+      ap (λ (x : Trace Refusal). step ⨾ x) (marked-is c t h f) ∙ walk-on s d call o (byItself i) (marked f) (rw k) (rw k)
 
-  module _ (i : ℕ) (r : TypeRead) (x : TypeData) (nr : ℕ) (e : r ≡ readType s (call .types) i) (g : r ≡ Good x) (f : Entering o i nr) where
-    pub self-out : (nr ≡ 0 → ⊥) → tr [] (barred (eqb nr 12) i) [] (count 0 1) ≡ walked c t h (byItself i)
+  module _ {r : TypeRead} {x : TypeData} {i : ℕ} (b : List ℕ) (e : r ≡ readType s (call .types) i) (g : r ≡ Good x) {p : Pen} {list l : List ℕ} {y : Opening}
+      (z : Opens p list o way.Itself i l y) (room : length list ≡ 96) where
+    self-entry : entryOf c t (byItself i) ≡ opens (key 1 i)
     unfolding entryOf afterRead
-    self-out b = let k : t .types i ≡ good (typeContents s x) = read-good i r x e g in walk-out (byItself i) 1 i nr (rw k) f b
+    self-entry = rw (read-good s d call o i r x e g)
 
-    pub self-in : (m : List ℕ) → nr ≡ 0 → i < 4_294_967_296 → m ≡ (1 * 4_294_967_296 + i) ∷ o
-        → opened ⨾ ruled c t (holding call m) (texted (typeText c (typeContents s x))) ≡ walked c t h (byItself i)
-    unfolding entryOf body afterRead alone
-    self-in m b l z =
-        let k : t .types i ≡ good (typeContents s x) = read-good i r x e g in
-        walk-in (byItself i) 1 i nr m (texted (typeText c (typeContents s x))) (rw k) f b l z (rw k)
+    self-body : body c t (byItself i) ≡ texted (typeText c (typeContents s x))
+    unfolding body alone
+    self-body = rw (read-good s d call o i r x e g)
 
-  -- A pointer's target.
-  pub target-out : (i : ℕ) (ls : List Level) (nr : ℕ) → Entering o i nr → (nr ≡ 0 → ⊥) → tr [] (barred (eqb nr 12) i) [] (count 0 1) ≡ walked c t h (target i ls)
-  unfolding entryOf
-  target-out i ls nr f b = walk-out (target i ls) 2 i nr refl f b
+    pub self-stopped : {q : Pen} → y ≡ opening.Stopped q → Wrote (page b p) (walked c t h (byItself i)) (page b q)
+    self-stopped f = stopped-then s d call o (byItself i) way.Itself i self-entry b z room f
 
-  module _ (i : ℕ) (ls : List Level) (r : TypeRead) (nr : ℕ) (m : List ℕ) (f : Entering o i nr) (b : nr ≡ 0) (l : i < 4_294_967_296)
-      (z : m ≡ (2 * 4_294_967_296 + i) ∷ o) (e : r ≡ readType s (call .types) i) where
-    target-in : (p : Rule) → inside (t .types i) (aimed c ls) ≡ p → opened ⨾ ruled c t (holding call m) p ≡ walked c t h (target i ls)
-    unfolding entryOf body
-    target-in p k = walk-in (target i ls) 2 i nr m p refl f b l z k
+    pub self-open : {q : Pen} {n : ℕ} {j : Page} → y ≡ opening.Open q n
+        → Wrote (page b q) (ruled c t (holding call (take n l)) (texted (typeText c (typeContents s x)))) j → Wrote (page b p) (walked c t h (byItself i)) j
+    self-open f v = opened-then s d call o (byItself i) way.Itself i self-entry b (texted (typeText c (typeContents s x))) (open-in z room f) self-body v
 
-    pub target-bad : (a : Refusal) → r ≡ Refused a → opened ⨾ unreadTrace a ≡ walked c t h (target i ls)
-    target-bad a g =
-        let k : t .types i ≡ bad a = read-bad i r a e g in
-        ap (λ (x : Trace Refusal). opened ⨾ x) (unread-is c t (holding call m) a) ∙ target-in (unread a) (rw k)
+  -- A pointer's target, and that of a pointer's modifier.
+  module _ (m : Bool) (i : ℕ) (ls : List Level) where
+    aimed-entry : entryOf c t (aimedAt m i ls) ≡ opens (key (wayOf (wayTo m)) i)
+    unfolding entryOf
+    aimed-entry = by m
+      where
+        by : (m : Bool) → entryOf c t (aimedAt m i ls) ≡ opens (key (wayOf (wayTo m)) i)
+        by true = refl
+        by false = refl
 
-    pub target-pointer : (x : TypeData) (p : PointerType) (g : List Level) → r ≡ Good x → x ≡ type.Pointer p → g ≡ level (p .constant) false (p .mode) ∷ ls
-        → opened ⨾ walked c t (holding call m) (target (p .underlying .0) g) ≡ walked c t h (target i ls)
-    unfolding ruled exec aimed typeContents
-    target-pointer x p g a y w =
-        let k : t .types i ≡ good (typeContents s x) = read-good i r x e a in
-        rw w (target-in (trace.call (target (p .underlying .0) (level (p .constant) false (p .mode) ∷ ls))) (rw (k, y)))
+    aimed-body : body c t (aimedAt m i ls) ≡ inside (t .types i) (aimedRule c m ls)
+    unfolding body
+    aimed-body = by m
+      where
+        by : (m : Bool) → body c t (aimedAt m i ls) ≡ inside (t .types i) (aimedRule c m ls)
+        by true = refl
+        by false = refl
 
-    pub target-modifier : (x : TypeData) (p : ModifierType) (g : List Level) → r ≡ Good x → x ≡ type.Modifier p → g ≡ overPointee (p .constant) ls
-        → opened ⨾ walked c t (holding call m) (targetOfModifier (p .underlying .0) g) ≡ walked c t h (target i ls)
-    unfolding ruled exec aimed typeContents
-    target-modifier x p g a y w =
-        let k : t .types i ≡ good (typeContents s x) = read-good i r x e a in
-        rw w (target-in (trace.call (targetOfModifier (p .underlying .0) (overPointee (p .constant) ls))) (rw (k, y)))
+    module _ {w : Way} {p : Pen} {list l : List ℕ} {r : TypeOpening} (b : List ℕ) (u : w ≡ wayTo m) (z : OpensType s (call .types) p list o w i l r) (room : length list ≡ 96) where
+      way-is : OpensType s (call .types) p list o (wayTo m) i l r
+      way-is = rw u at z
 
-    pub target-other : (x : TypeData) → r ≡ Good x → OneOf noPointerModifier (tagOf the-type x)
-        → opened ⨾ ruled c t (holding call m) (pointed c ls (typeContents s x)) ≡ walked c t h (target i ls)
-    target-other x a n =
-        let k : t .types i ≡ good (typeContents s x) = read-good i r x e a in
-        target-in (pointed c ls (typeContents s x)) (rw k (aimed-other c s ls x n))
+      pub aimed-stopped : {q : Pen} → r ≡ typeOpening.Stopped q → Wrote (page b p) (walked c t h (aimedAt m i ls)) (page b q)
+      aimed-stopped f = type-stopped s d call o (aimedAt m i ls) (wayTo m) i aimed-entry (aimedRule c m ls) aimed-body b way-is room f
 
-  -- The target of a pointer's modifier.
-  pub again-out : (i : ℕ) (ls : List Level) (nr : ℕ) → Entering o i nr → (nr ≡ 0 → ⊥) → tr [] (barred (eqb nr 12) i) [] (count 0 1) ≡ walked c t h (targetOfModifier i ls)
-  unfolding entryOf
-  again-out i ls nr f b = walk-out (targetOfModifier i ls) 3 i nr refl f b
-
-  module _ (i : ℕ) (ls : List Level) (r : TypeRead) (nr : ℕ) (m : List ℕ) (f : Entering o i nr) (b : nr ≡ 0) (l : i < 4_294_967_296)
-      (z : m ≡ (3 * 4_294_967_296 + i) ∷ o) (e : r ≡ readType s (call .types) i) where
-    again-in : (p : Rule) → inside (t .types i) (aimedAgain c ls) ≡ p → opened ⨾ ruled c t (holding call m) p ≡ walked c t h (targetOfModifier i ls)
-    unfolding entryOf body
-    again-in p k = walk-in (targetOfModifier i ls) 3 i nr m p refl f b l z k
-
-    pub again-bad : (a : Refusal) → r ≡ Refused a → opened ⨾ unreadTrace a ≡ walked c t h (targetOfModifier i ls)
-    again-bad a g =
-        let k : t .types i ≡ bad a = read-bad i r a e g in
-        ap (λ (x : Trace Refusal). opened ⨾ x) (unread-is c t (holding call m) a) ∙ again-in (unread a) (rw k)
-
-    pub again-pointer : (x : TypeData) (p : PointerType) (g : List Level) → r ≡ Good x → x ≡ type.Pointer p → g ≡ level (p .constant) false (p .mode) ∷ ls
-        → opened ⨾ walked c t (holding call m) (target (p .underlying .0) g) ≡ walked c t h (targetOfModifier i ls)
-    unfolding ruled exec aimedAgain typeContents
-    again-pointer x p g a y w =
-        let k : t .types i ≡ good (typeContents s x) = read-good i r x e a in
-        rw w (again-in (trace.call (target (p .underlying .0) (level (p .constant) false (p .mode) ∷ ls))) (rw (k, y)))
-
-    pub again-plain : (x : TypeData) → r ≡ Good x → OneOf noPointer (tagOf the-type x)
-        → opened ⨾ ruled c t (holding call m) (pointed c ls (typeContents s x)) ≡ walked c t h (targetOfModifier i ls)
-    again-plain x a n =
-        let k : t .types i ≡ good (typeContents s x) = read-good i r x e a in
-        again-in (pointed c ls (typeContents s x)) (rw k (again-other c s ls x n))
+      pub aimed-open : {q : Pen} {n : ℕ} {x : TypeData} {j : Page} → r ≡ typeOpening.Open q n x
+          → Wrote (page b q) (ruled c t (holding call (take n l)) (aimedRule c m ls (typeContents s x))) j → Wrote (page b p) (walked c t h (aimedAt m i ls)) j
+      aimed-open f v = type-open s d call o (aimedAt m i ls) (wayTo m) i aimed-entry (aimedRule c m ls) aimed-body b way-is room f v
 
   -- Any other modifier's target.
-  pub modified-out : (i : ℕ) (n : Bool) (nr : ℕ) → Entering o i nr → (nr ≡ 0 → ⊥) → tr [] (barred (eqb nr 12) i) [] (count 0 1) ≡ walked c t h (modified i n)
-  unfolding entryOf
-  modified-out i n nr f b = walk-out (modified i n) 4 i nr refl f b
+  module _ (i : ℕ) (n : Bool) {p : Pen} {list l : List ℕ} {r : TypeOpening} (b : List ℕ) (z : OpensType s (call .types) p list o way.Modified i l r) (room : length list ≡ 96) where
+    modified-entry : entryOf c t (modified i n) ≡ opens (key 4 i)
+    unfolding entryOf
+    modified-entry = refl
 
-  module _ (i : ℕ) (n : Bool) (r : TypeRead) (nr : ℕ) (m : List ℕ) (f : Entering o i nr) (b : nr ≡ 0) (l : i < 4_294_967_296)
-      (z : m ≡ (4 * 4_294_967_296 + i) ∷ o) (e : r ≡ readType s (call .types) i) where
-    modified-in : (p : Rule) → inside (t .types i) (modifiedText c n) ≡ p → opened ⨾ ruled c t (holding call m) p ≡ walked c t h (modified i n)
-    unfolding entryOf body
-    modified-in p k = walk-in (modified i n) 4 i nr m p refl f b l z k
+    modified-body : body c t (modified i n) ≡ inside (t .types i) (modifiedText c n)
+    unfolding body
+    modified-body = refl
 
-    pub modified-bad : (a : Refusal) → r ≡ Refused a → opened ⨾ unreadTrace a ≡ walked c t h (modified i n)
-    modified-bad a g =
-        let k : t .types i ≡ bad a = read-bad i r a e g in
-        ap (λ (x : Trace Refusal). opened ⨾ x) (unread-is c t (holding call m) a) ∙ modified-in (unread a) (rw k)
+    pub modified-stopped : {q : Pen} → r ≡ typeOpening.Stopped q → Wrote (page b p) (walked c t h (modified i n)) (page b q)
+    modified-stopped f = type-stopped s d call o (modified i n) way.Modified i modified-entry (modifiedText c n) modified-body b z room f
 
-    pub modified-pointer : (x : TypeData) (p : PointerType) (w : Bool) (g q : List Level) → r ≡ Good x → x ≡ type.Pointer p → w ≡ p .constant || n
-        → q ≡ [] → g ≡ level w false (p .mode) ∷ q
-        → opened ⨾ walked c t (holding call m) (target (p .underlying .0) g) ≡ walked c t h (modified i n)
-    unfolding ruled exec modifiedText typeContents
-    modified-pointer x p w g q a y v u j =
-        let k : t .types i ≡ good (typeContents s x) = read-good i r x e a in
-        rw (j, u, v) (modified-in (trace.call (target (p .underlying .0) (level (p .constant || n) false (p .mode) ∷ []))) (rw (k, y)))
-
-    pub modified-primitive : (x : TypeData) (p : PrimitiveType) → r ≡ Good x → x ≡ type.Primitive p
-        → opened ⨾ say (primitiveText c n (p .code) (p .indirection)) ≡ walked c t h (modified i n)
-    unfolding ruled exec modifiedText typeContents
-    modified-primitive x p a y =
-        let k : t .types i ≡ good (typeContents s x) = read-good i r x e a in
-        modified-in (write (primitiveText c n (p .code) (p .indirection))) (rw (k, y))
-
-    pub modified-plain : (x : TypeData) → r ≡ Good x → OneOf noPointerPrimitive (tagOf the-type x)
-        → opened ⨾ say (pick n (bytes "const ") []) ⨾ ruled c t (holding call m) (texted (typeText c (typeContents s x))) ≡ walked c t h (modified i n)
-    unfolding ruled exec _⨾_
-    modified-plain x a j =
-        let k : t .types i ≡ good (typeContents s x) = read-good i r x e a in
-        modified-in (seq (write (pick n (bytes "const ") [])) (texted (typeText c (typeContents s x)))) (rw k (modified-other c s n x j))
+    pub modified-open : {q : Pen} {k : ℕ} {x : TypeData} {j : Page} → r ≡ typeOpening.Open q k x
+        → Wrote (page b q) (ruled c t (holding call (take k l)) (modifiedText c n (typeContents s x))) j → Wrote (page b p) (walked c t h (modified i n)) j
+    modified-open f v = type-open s d call o (modified i n) way.Modified i modified-entry (modifiedText c n) modified-body b z room f v
 
   -- A method's arguments.
   module _ (m : Method) (closes : Bool) where
@@ -612,35 +438,69 @@ module _ (s d : List ℕ) (call : Call) (o : List ℕ) where
     unfolding ruled exec methodArguments
     args-shown b e f = let k : c .noArguments ≡ false = cc in rw k
 
-    module _ (w : Bool) (v : w ≡ c .noArguments) (u : w ≡ false) (nr : ℕ) (f : Entering o (m .list) nr) where
-      pub args-out : (nr ≡ 0 → ⊥) → tr [] (barred (eqb nr 12) (m .list)) [] (count 0 1) ≡ ruled c t h (methodArguments c m closes)
-      unfolding entryOf
-      args-out b = walk-out (listOf m closes) 5 (m .list) nr refl f b ∙ args-shown w v u
+    list-entry : entryOf c t (listOf m closes) ≡ opens (key 5 (m .list))
+    unfolding entryOf
+    list-entry = refl
 
-      module _ (r : TypeRead) (q : List ℕ) (b : nr ≡ 0) (l : m .list < 4_294_967_296) (z : q ≡ (5 * 4_294_967_296 + m .list) ∷ o)
-          (e : r ≡ readType s (call .types) (m .list)) where
-        args-in : (p : Rule) → inside (t .types (m .list)) (methodList c t m closes) ≡ p → opened ⨾ ruled c t (holding call q) p ≡ ruled c t h (methodArguments c m closes)
-        unfolding entryOf body
-        args-in p k = walk-in (listOf m closes) 5 (m .list) nr q p refl f b l z k ∙ args-shown w v u
+    list-body : body c t (listOf m closes) ≡ inside (t .types (m .list)) (methodList c t m closes)
+    unfolding body
+    list-body = refl
 
-        pub args-bad : (a : Refusal) → r ≡ Refused a → opened ⨾ unreadTrace a ≡ ruled c t h (methodArguments c m closes)
-        args-bad a g =
-            let k : t .types (m .list) ≡ bad a = read-bad (m .list) r a e g in
-            ap (λ (x : Trace Refusal). opened ⨾ x) (unread-is c t (holding call q) a) ∙ args-in (unread a) (rw k)
+    module _ (w : Bool) (e : w ≡ c .noArguments) (g : w ≡ false) {p : Pen} {list l : List ℕ} {r : TypeOpening} (b : List ℕ)
+        (z : OpensType s (call .types) p list o way.List (m .list) l r) (room : length list ≡ 96) where
+      pub args-stopped : {q : Pen} → r ≡ typeOpening.Stopped q → Wrote (page b p) (ruled c t h (methodArguments c m closes)) (page b q)
+      args-stopped f = wrote-by (type-stopped s d call o (listOf m closes) way.List (m .list) list-entry (methodList c t m closes) list-body b z room f) (args-shown w e g)
 
-        pub args-wrong : (x : TypeData) → r ≡ Good x → OneOf noList (tagOf the-type x)
-            → opened ⨾ tr [] (refused (ArgumentTypeNotArgumentList (m .list))) [] (count 0 0) ≡ ruled c t h (methodArguments c m closes)
-        unfolding ruled exec
-        args-wrong x a n =
-            let k : t .types (m .list) ≡ good (typeContents s x) = read-good (m .list) r x e a in
-            args-in (refuse (ArgumentTypeNotArgumentList (m .list))) (rw k (list-other c s t m closes x n))
+      pub args-open : {q : Pen} {n : ℕ} {x : TypeData} {j : Page} → r ≡ typeOpening.Open q n x
+          → Wrote (page b q) (ruled c t (holding call (take n l)) (methodList c t m closes (typeContents s x))) j → Wrote (page b p) (ruled c t h (methodArguments c m closes)) j
+      args-open f v = wrote-by (type-open s d call o (listOf m closes) way.List (m .list) list-entry (methodList c t m closes) list-body b z room f v) (args-shown w e g)
 
-        pub args-list : (x : TypeData) (p : Entries) → r ≡ Good x → x ≡ type.ArgumentList p
-            → opened ⨾ ruled c t (holding call q) (methodList c t m closes (arguments (numbersAt s (p .start) (p .count)))) ≡ ruled c t h (methodArguments c m closes)
-        unfolding typeContents
-        args-list x p a y =
-            let k : t .types (m .list) ≡ good (typeContents s x) = read-good (m .list) r x e a in
-            args-in (methodList c t m closes (arguments (numbersAt s (p .start) (p .count)))) (rw (k, y))
+    pub list-wrong : (x : TypeData) → OneOf noList (tagOf the-type x)
+        → tr [] (refused (ArgumentTypeNotArgumentList (m .list))) [] (count 0 0) ≡ ruled c t h (methodList c t m closes (typeContents s x))
+    unfolding ruled exec
+    list-wrong x n = rw (list-other c s t m closes x n)
+
+    pub list-right : (x : TypeData) (p : Entries) → x ≡ type.ArgumentList p
+        → ruled c t h (methodList c t m closes (arguments (numbersAt s (p .start) (p .count)))) ≡ ruled c t h (methodList c t m closes (typeContents s x))
+    unfolding typeContents
+    list-right x p e = rw e
+
+  -- What is done with a target that was read, by its kind.
+  module _ (ls : List Level) (x : TypeData) where
+    pub aimed-pointer : (m : Bool) (p : PointerType) (g : List Level) → x ≡ type.Pointer p → g ≡ level (p .constant) false (p .mode) ∷ ls
+        → walked c t h (target (p .underlying .0) g) ≡ ruled c t h (aimedRule c m ls (typeContents s x))
+    unfolding ruled exec aimed aimedAgain typeContents
+    aimed-pointer true p g e f = rw (e, f)
+    aimed-pointer false p g e f = rw (e, f)
+
+    pub aimed-modifier : (m : Bool) (p : ModifierType) (g : List Level) → m ≡ false → x ≡ type.Modifier p → g ≡ overPointee (p .constant) ls
+        → walked c t h (targetOfModifier (p .underlying .0) g) ≡ ruled c t h (aimedRule c m ls (typeContents s x))
+    unfolding ruled exec aimed typeContents
+    aimed-modifier m p g a e f = rw (a, e, f)
+
+    pub aimed-twice : (m : Bool) (p : ModifierType) → m ≡ true → x ≡ type.Modifier p
+        → ruled c t h (pointed c ls (typeContents s (type.Modifier p))) ≡ ruled c t h (aimedRule c m ls (typeContents s x))
+    unfolding aimedAgain typeContents
+    aimed-twice m p a e = rw (a, e)
+
+    pub aimed-plain : (m : Bool) → OneOf noPointerModifier (tagOf the-type x)
+        → ruled c t h (pointed c ls (typeContents s x)) ≡ ruled c t h (aimedRule c m ls (typeContents s x))
+    aimed-plain m n = ap (λ (p : Rule). ruled c t h p) (sym (aimed-other c s ls m x n))
+
+  module _ (n : Bool) (x : TypeData) where
+    pub modified-pointer : (p : PointerType) (w : Bool) (g q : List Level) → x ≡ type.Pointer p → w ≡ p .constant || n → q ≡ [] → g ≡ level w false (p .mode) ∷ q
+        → walked c t h (target (p .underlying .0) g) ≡ ruled c t h (modifiedText c n (typeContents s x))
+    unfolding ruled exec modifiedText typeContents
+    modified-pointer p w g q e f u v = rw (e, v, u, f)
+
+    pub modified-primitive : (p : PrimitiveType) → x ≡ type.Primitive p → say (primitiveText c n (p .code) (p .indirection)) ≡ ruled c t h (modifiedText c n (typeContents s x))
+    unfolding ruled exec modifiedText typeContents
+    modified-primitive p e = rw e
+
+    pub modified-plain : OneOf noPointerPrimitive (tagOf the-type x)
+        → say (pick n (bytes "const ") []) ⨾ ruled c t h (texted (typeText c (typeContents s x))) ≡ ruled c t h (modifiedText c n (typeContents s x))
+    unfolding ruled exec _⨾_
+    modified-plain j = rw (modified-other c s n x j)
 
   -- The this pointer decides what follows.
   module _ (m : Method) (closes : Bool) (list : List ℕ) (r : ThisRead) (e : r ≡ thisOf (λ i. typeReading s (readType s (call .types) i)) (m .this) (m .class)) where
@@ -776,14 +636,8 @@ pub arrayed-not : (x : TypeData) (r : ArrayEnd) → r ≡ end.Base x → endArra
 unfolding endArrayed
 arrayed-not x r e f = rw e at f
 
-pub entry-room : (o : List ℕ) (i nr : ℕ) → Entering o i nr → nr ≡ 0 → length o < 96
-entry-room o i nr e f = e .free f
-
-pub pushed-length : (o m : List ℕ) (x : ℕ) → m ≡ x ∷ o → length m ≡ length o + 1
-pushed-length o m x e = rw e (sym (add-one (length o)))
-
 -- The entries of a list from the one with a number on.
-pub numbers-more : (s : List ℕ) (at n : ℕ) → 0 < n → numbersAt s at n ≡ number 4 s at ∷ numbersAt s (at + 4) (n - 1)
+numbers-more : (s : List ℕ) (at n : ℕ) → 0 < n → numbersAt s at n ≡ number 4 s at ∷ numbersAt s (at + 4) (n - 1)
 unfolding numbersAt
 numbers-more s at zero h = absurd (omega arith)
 numbers-more s at (suc n) h = let k : suc n - 1 ≡ n = omega arith in rw k
@@ -791,64 +645,50 @@ numbers-more s at (suc n) h = let k : suc n - 1 ≡ n = omega arith in rw k
 abbrev pub from : List ℕ → Entries → ℕ → List ℕ
 from s e i = numbersAt s (e .start + 4 * i) (e .count - i)
 
-pub from-all : (s : List ℕ) (e : Entries) → from s e 0 ≡ numbersAt s (e .start) (e .count)
+from-all : (s : List ℕ) (e : Entries) → from s e 0 ≡ numbersAt s (e .start) (e .count)
 from-all s e =
     let a : e .start + 4 * 0 ≡ e .start = omega arith in
     let b : e .count - 0 ≡ e .count = omega arith in
     rw (a, b)
 
-pub from-next : (s : List ℕ) (e : Entries) (i : ℕ) → i < e .count → from s e i ≡ number 4 s (e .start + 4 * i) ∷ from s e (i + 1)
+from-next : (s : List ℕ) (e : Entries) (i : ℕ) → i < e .count → from s e i ≡ number 4 s (e .start + 4 * i) ∷ from s e (i + 1)
 from-next s e i h =
     let a : e .start + 4 * i + 4 ≡ e .start + 4 * (i + 1) = omega arith in
     let b : e .count - i - 1 ≡ e .count - (i + 1) = omega arith in
     numbers-more s (e .start + 4 * i) (e .count - i) (omega arith) ∙ (rw (a, b))
 
-pub from-none : (s : List ℕ) (e : Entries) (i : ℕ) → e .count ≤ i → from s e i ≡ []
+from-none : (s : List ℕ) (e : Entries) (i : ℕ) → e .count ≤ i → from s e i ≡ []
 unfolding numbersAt
 from-none s e i h = let a : e .count - i ≡ 0 = omega arith in rw a
 
--- The loop over a list: whatever the rest makes of the page, the whole makes of the first page.
-pub record Rest (s d : List ℕ) (call : Call) (o : List ℕ) (comma between : Bool) (e : Entries) (i : ℕ) (g h : Page) : Type 0 where
-  pub goes : (k : Page)
-      → Wrote g (ruled (settingsOf call) (tableIn s d call) (holding call o) (entries (settingsOf call) between (from s e i))) k
-      → Wrote h (ruled (settingsOf call) (tableIn s d call) (holding call o) (entries (settingsOf call) comma (numbersAt s (e .start) (e .count)))) k
+-- The loop over a list, its entries read from a stream and a text between them: whatever the rest makes of the page, the whole makes of the first page.
+module _ (s d : List ℕ) (call : Call) (o stream sep : List ℕ) (e : Entries) where
+  abbrev pub entriesTrace : Bool → List ℕ → Trace Refusal
+  entriesTrace between list = ruled (settingsOf call) (tableIn s d call) (holding call o) (listed sep between list)
 
-module _ (s d : List ℕ) (call : Call) (o : List ℕ) (comma between : Bool) (e : Entries) where
-  pub rest-all : (g : Page) → Rest s d call o comma comma e 0 g g
-  rest-all g =
-      record {
-        goes = λ k w. wrote-as
-            (ap
-            (λ (l : List ℕ). ruled (settingsOf call) (tableIn s d call) (holding call o) (entries (settingsOf call) comma l))
-            (from-all s e))
-            w;
-      }
+  pub record Rest (first between : Bool) (i : ℕ) (g h : Page) : Type 0 where
+    pub goes : (k : Page) → Wrote g (entriesTrace between (from stream e i)) k → Wrote h (entriesTrace first (numbersAt stream (e .start) (e .count))) k
 
-  module _ (i : ℕ) (g h : Page) (r : Rest s d call o comma between e i g h) where
-    pub rest-next : (a : ℕ) (f m : Page) → i < e .count → a ≡ number 4 s (e .start + 4 * i) → Wrote g (say (commaText (settingsOf call) between)) f
-        → Wrote f (walked (settingsOf call) (tableIn s d call) (holding call o) (byItself a)) m → Rest s d call o comma true e (i + 1) m h
+  pub rest-all : (first : Bool) (g : Page) → Rest first first 0 g g
+  rest-all first g = record { goes = λ k w. wrote-as (ap (entriesTrace first) (from-all stream e)) w }
+
+  module _ (first between : Bool) (i : ℕ) (g h : Page) (r : Rest first between i g h) where
+    pub rest-next : (a : ℕ) (f m : Page) → i < e .count → a ≡ number 4 stream (e .start + 4 * i) → Wrote g (say (pick between sep [])) f
+        → Wrote f (walked (settingsOf call) (tableIn s d call) (holding call o) (byItself a)) m → Rest first true (i + 1) m h
     rest-next a f m l q v w =
         record {
           goes = λ k z. r .goes k
               (wrote-by (v ▸ w ▸ z)
-              (entries-more (settingsOf call) (tableIn s d call) (holding call o) between a (from s e (i + 1))
-              ∙ ap
-              (λ (l : List ℕ). ruled (settingsOf call) (tableIn s d call) (holding call o) (entries (settingsOf call) between l))
-              (rw q (sym (from-next s e i l)))));
+              (entries-more (settingsOf call) (tableIn s d call) (holding call o) sep between a (from stream e (i + 1))
+              ∙ ap (entriesTrace between) (rw q (sym (from-next stream e i l)))));
         }
 
-    pub rest-none : e .count ≤ i
-        → Wrote h (ruled (settingsOf call) (tableIn s d call) (holding call o) (entries (settingsOf call) comma (numbersAt s (e .start) (e .count)))) g
+    pub rest-none : e .count ≤ i → Wrote h (entriesTrace first (numbersAt stream (e .start) (e .count))) g
     rest-none l =
         r .goes g
-        (wrote-same
-        (entries-none (settingsOf call) (tableIn s d call) (holding call o) between
-        ∙ ap
-        (λ (l : List ℕ). ruled (settingsOf call) (tableIn s d call) (holding call o) (entries (settingsOf call) between l))
-        (sym (from-none s e i l))))
+        (wrote-same (entries-none (settingsOf call) (tableIn s d call) (holding call o) sep between ∙ ap (entriesTrace between) (sym (from-none stream e i l))))
 
-    pub rest-idle : idle (g .pen .stop) ≡ true
-        → Wrote h (ruled (settingsOf call) (tableIn s d call) (holding call o) (entries (settingsOf call) comma (numbersAt s (e .start) (e .count)))) g
+    pub rest-idle : idle (g .pen .stop) ≡ true → Wrote h (entriesTrace first (numbersAt stream (e .start) (e .count))) g
     rest-idle l = r .goes g (wrote-idle l)
 
 pub ruleset walks = (
@@ -856,27 +696,7 @@ pub ruleset walks = (
   wrote-same,
   wrote-as,
   self-bad,
-  self-out,
-  self-in,
-  target-out,
-  target-bad,
-  target-pointer,
-  target-modifier,
-  target-other,
-  again-out,
-  again-bad,
-  again-pointer,
-  again-plain,
-  modified-out,
-  modified-bad,
-  modified-pointer,
-  modified-primitive,
-  modified-plain,
   args-hidden,
-  args-out,
-  args-bad,
-  args-wrong,
-  args-list,
   this-given,
   this-extra,
   this-bad,

@@ -1,6 +1,6 @@
 -- The walk of a task and of a rule, over what the writers are given.
 use Prim.Native.Nat.{ℕ}
-use mathlib.Core.Bool.{Bool, true}
+use mathlib.Core.Bool.{Bool, true, false}
 use mathlib.Core.List.{List}
 use Rattle.streams.specs.declared.refusal.Refusal.{Refusal}
 use Rattle.codeview.specs.declared.record.MemberFunctionType.{MemberFunctionType}
@@ -8,8 +8,10 @@ use Rattle.reading.specs.Trace.{Trace, after}
 use Rattle.rules.specs.Flags.{Settings}
 use Rattle.rules.specs.Record.{Record, Method}
 use Rattle.rules.specs.Text.{Level, levels, endsSigned}
-use Rattle.rules.specs.Rules.{Task, Rule, texted, typeText, walked, ruled}
+use Rattle.rules.specs.Rules.{Task, target, targetOfModifier, Rule, texted, typeText, aimed, aimedAgain, walked, ruled}
 use Rattle.context.specs.declared.flags.Call.{Call}
+use Rattle.context.specs.declared.seen.Way.{Way}
+use Rattle.context.specs.declared.seen.Way.the-variants as way
 use Rattle.context.specs.Context.{settingsOf, tableIn, holding}
 
 abbrev pub walking : List ℕ → List ℕ → Call → List ℕ → Task → Trace Refusal
@@ -32,3 +34,17 @@ methodOf m =
 -- A type that is neither method nor procedure, under the levels of its pointers (the last case of `pointed`).
 abbrev pub behind : Settings → List Level → Record → Rule
 behind c ls r = after (texted (typeText c r)) (λ bs. levels c true (endsSigned bs) ls)
+
+-- A pointer's target, or that of a pointer's modifier, and the way in which it is opened.
+abbrev pub aimedAt : Bool → ℕ → List Level → Task
+aimedAt true i ls = targetOfModifier i ls
+aimedAt false i ls = target i ls
+
+abbrev pub wayTo : Bool → Way
+wayTo true = way.TargetOfModifier
+wayTo false = way.Target
+
+-- What is done with its record.
+abbrev pub aimedRule : Settings → Bool → List Level → Record → Rule
+aimedRule c true ls r = aimedAgain c ls r
+aimedRule c false ls r = aimed c ls r

@@ -7,10 +7,10 @@ ghost use mathlib.Core.Bool.{false};
 ghost use mathlib.Core.List.{[], _∷_};
 ghost use Rattle.rules.specs.Text.{level};
 ghost use Rattle.rules.specs.Record.{method, procedure, arguments, typeContents, numbersAt};
-ghost use Rattle.rules.specs.Rules.{byItself, target, targetOfModifier, modified, element, texted, typeText, pointed, result, methodArguments, methodList, entries};
+ghost use Rattle.rules.specs.Rules.{byItself, modified, element, texted, typeText, pointed, result, methodArguments, methodList, entries};
 ghost use Rattle.pen.specs.Page.{page, Wrote};
 ghost use Rattle.context.specs.Context.{settingsOf, tableIn, levelsOf};
-ghost use Rattle.emit.specs.Walking.{walking, ruling, methodOf, behind};
+ghost use Rattle.emit.specs.Walking.{walking, ruling, methodOf, behind, aimedAt, wayTo};
 use arrays::ArrayEnd;
 use arrays::get_array_info;
 use codeview::index::TypeIndex;
@@ -28,8 +28,11 @@ use context::levels::PtrAttributes;
 use context::levels::no_levels;
 use context::levels::over_pointee;
 use context::levels::push_level;
-use context::seen::entry;
-use context::seen::insert;
+use context::seen::Opening;
+use context::seen::TypeOpening;
+use context::seen::Way;
+use context::seen::open_index;
+use context::seen::open_type;
 use methods::ThisRead;
 use methods::check_ptr_class;
 use parts::attributes::emit_attributes;
@@ -88,26 +91,17 @@ pub fn emit_method_args(
     if no_arguments(call) {
         return p;
     }
-    if pen::is_idle(p) {
-        return p;
-    }
     let index = m.arguments;
-    let nr = entry(seen, index.0);
-    if nr != 0 {
-        return pen::bar(out, p, nr == 12, index.0);
-    }
-    let mut list = [0u64; 96];
-    let n = insert(&mut list, seen, 5, index.0);
-    let q = pen::tick(out, p);
     let stream = call.types;
-    match type_at(types, stream, index) {
-        TypeRead::Good(t) => {
+    let mut list = [0u64; 96];
+    match open_type(types, stream, p, &mut list, seen, Way::List, index) {
+        TypeOpening::Open(q, n, t) => {
             let TypeData::ArgumentList(e) = t else {
                 return pen::refuse(out, q, Refusal::ArgumentTypeNotArgumentList(index.0));
             };
             args(types, ids, out, q, call, &list[..n], m, e, closes)
         }
-        TypeRead::Refused(f) => pen::unread(out, q, f),
+        TypeOpening::Stopped(q) => q,
     }
 }
 
@@ -234,7 +228,7 @@ fn emit_ptr_helper(
     }
 }
 
-// A pointer's target, under the levels so far: another pointer or a modifier goes on.
+// A pointer's target, or that of a pointer's modifier, under the levels so far: another pointer goes on, and so does a first modifier.
 fn emit_ptr(
     types: &[u8],
     ids: &[u8],
@@ -243,77 +237,34 @@ fn emit_ptr(
     call: Call,
     seen: &[u64],
     levels: Levels,
+    modified: bool,
     index: TypeIndex,
 ) -> Pen
     requires { ⌜ (96 ≤ levels .left + length (now seen)) × (levels .left ≤ 96) ⌝ }
-    ensures { λ r. ⌜ Wrote (page (now (out .entry)) p) (walking (now (types .entry)) (now (ids .entry)) call (now (seen .entry)) (target (index .0) (levelsOf levels))) (page (now (out .exit)) r) ⌝ }
+    ensures { λ r. ⌜ Wrote (page (now (out .entry)) p) (walking (now (types .entry)) (now (ids .entry)) call (now (seen .entry)) (aimedAt modified (index .0) (levelsOf levels))) (page (now (out .exit)) r) ⌝ }
 {
-    if pen::is_idle(p) {
-        return p;
-    }
-    let nr = entry(seen, index.0);
-    if nr != 0 {
-        return pen::bar(out, p, nr == 12, index.0);
-    }
-    let mut list = [0u64; 96];
-    let n = insert(&mut list, seen, 2, index.0);
-    let q = pen::tick(out, p);
     let stream = call.types;
-    match type_at(types, stream, index) {
-        TypeRead::Good(t) => match t {
+    let way = way_to(modified);
+    let mut list = [0u64; 96];
+    match open_type(types, stream, p, &mut list, seen, way, index) {
+        TypeOpening::Open(q, n, t) => match t {
             TypeData::Pointer(x) => {
                 let mode = x.mode;
                 let under = x.underlying;
                 let further = aim(levels, x.constant, mode);
-                emit_ptr(types, ids, out, q, call, &list[..n], further, under)
+                emit_ptr(types, ids, out, q, call, &list[..n], further, false, under)
             }
             TypeData::Modifier(m) => {
+                if modified {
+                    return emit_ptr_helper(types, ids, out, q, call, &list[..n], levels, t);
+                }
                 let under = m.underlying;
                 let over = over_pointee(levels, m.constant);
-                via(types, ids, out, q, call, &list[..n], over, under)
+                emit_ptr(types, ids, out, q, call, &list[..n], over, true, under)
             }
             _ => emit_ptr_helper(types, ids, out, q, call, &list[..n], levels, t),
         },
-        TypeRead::Refused(f) => pen::unread(out, q, f),
-    }
-}
-
-// The target of a pointer's modifier.
-fn via(
-    types: &[u8],
-    ids: &[u8],
-    out: &mut [u8],
-    p: Pen,
-    call: Call,
-    seen: &[u64],
-    levels: Levels,
-    index: TypeIndex,
-) -> Pen
-    requires { ⌜ (96 ≤ levels .left + length (now seen)) × (levels .left ≤ 96) ⌝ }
-    ensures { λ r. ⌜ Wrote (page (now (out .entry)) p) (walking (now (types .entry)) (now (ids .entry)) call (now (seen .entry)) (targetOfModifier (index .0) (levelsOf levels))) (page (now (out .exit)) r) ⌝ }
-{
-    if pen::is_idle(p) {
-        return p;
-    }
-    let nr = entry(seen, index.0);
-    if nr != 0 {
-        return pen::bar(out, p, nr == 12, index.0);
-    }
-    let mut list = [0u64; 96];
-    let n = insert(&mut list, seen, 3, index.0);
-    let q = pen::tick(out, p);
-    let stream = call.types;
-    match type_at(types, stream, index) {
-        TypeRead::Good(t) => match t {
-            TypeData::Pointer(x) => {
-                let mode = x.mode;
-                let under = x.underlying;
-                let further = aim(levels, x.constant, mode);
-                emit_ptr(types, ids, out, q, call, &list[..n], further, under)
-            }
-            _ => emit_ptr_helper(types, ids, out, q, call, &list[..n], levels, t),
-        },
-        TypeRead::Refused(f) => pen::unread(out, q, f),
+        TypeOpening::Stopped(q) => q,
     }
 }
 
@@ -372,7 +323,7 @@ fn base(
             let mode = x.mode;
             let under = x.underlying;
             let first = aim(no_levels(), x.constant, mode);
-            let q = emit_ptr(types, ids, out, p, call, seen, first, under);
+            let q = emit_ptr(types, ids, out, p, call, seen, first, false, under);
             marked(out, q)
         }
         TypeData::Modifier(m) => {
@@ -397,24 +348,15 @@ fn emit_modifier(
 ) -> Pen
     ensures { λ r. ⌜ Wrote (page (now (out .entry)) p) (walking (now (types .entry)) (now (ids .entry)) call (now (seen .entry)) (modified (index .0) constant)) (page (now (out .exit)) r) ⌝ }
 {
-    if pen::is_idle(p) {
-        return p;
-    }
-    let nr = entry(seen, index.0);
-    if nr != 0 {
-        return pen::bar(out, p, nr == 12, index.0);
-    }
-    let mut list = [0u64; 96];
-    let n = insert(&mut list, seen, 4, index.0);
-    let q = pen::tick(out, p);
     let stream = call.types;
-    match type_at(types, stream, index) {
-        TypeRead::Good(t) => match t {
+    let mut list = [0u64; 96];
+    match open_type(types, stream, p, &mut list, seen, Way::Modified, index) {
+        TypeOpening::Open(q, n, t) => match t {
             TypeData::Pointer(x) => {
                 let mode = x.mode;
                 let under = x.underlying;
                 let first = aim(no_levels(), either(x.constant, constant), mode);
-                emit_ptr(types, ids, out, q, call, &list[..n], first, under)
+                emit_ptr(types, ids, out, q, call, &list[..n], first, false, under)
             }
             TypeData::Primitive(x) => emit_primitive(out, q, call, constant, x.code, x.indirection),
             _ => {
@@ -422,7 +364,7 @@ fn emit_modifier(
                 emit_type(types, ids, out, a, call, &list[..n], t)
             }
         },
-        TypeRead::Refused(f) => pen::unread(out, q, f),
+        TypeOpening::Stopped(q) => q,
     }
 }
 
@@ -434,13 +376,13 @@ fn emit_arg_list(
     p: Pen,
     call: Call,
     seen: &[u64],
-    comma: bool,
+    led: bool,
     e: Entries,
 ) -> Pen
-    ensures { λ r. ⌜ Wrote (page (now (out .entry)) p) (ruling (now (types .entry)) (now (ids .entry)) call (now (seen .entry)) (entries (settingsOf call) comma (numbersAt (now (types .entry)) (e .start) (e .count)))) (page (now (out .exit)) r) ⌝ }
+    ensures { λ r. ⌜ Wrote (page (now (out .entry)) p) (ruling (now (types .entry)) (now (ids .entry)) call (now (seen .entry)) (entries (settingsOf call) led (numbersAt (now (types .entry)) (e .start) (e .count)))) (page (now (out .exit)) r) ⌝ }
 {
     let mut q = p;
-    let mut between = comma;
+    let mut between = led;
     let mut i = 0;
     while i < e.count {
         if pen::is_idle(q) {
@@ -473,14 +415,11 @@ pub fn emit_type_index(
     let stream = call.types;
     match type_at(types, stream, index) {
         TypeRead::Good(t) => {
-            let nr = entry(seen, index.0);
-            if nr != 0 {
-                return pen::bar(out, p, nr == 12, index.0);
-            }
             let mut list = [0u64; 96];
-            let n = insert(&mut list, seen, 1, index.0);
-            let q = pen::tick(out, p);
-            emit_type(types, ids, out, q, call, &list[..n], t)
+            match open_index(p, &mut list, seen, Way::Itself, index) {
+                Opening::Open(q, n) => emit_type(types, ids, out, q, call, &list[..n], t),
+                Opening::Stopped(q) => q,
+            }
         }
         TypeRead::Refused(f) => mark(out, p, f),
     }
@@ -529,7 +468,7 @@ fn emit_type_inner(
             let mode = x.mode;
             let under = x.underlying;
             let first = aim(no_levels(), x.constant, mode);
-            emit_ptr(types, ids, out, p, call, seen, first, under)
+            emit_ptr(types, ids, out, p, call, seen, first, false, under)
         }
         TypeData::Procedure(x) => {
             let list = x.arguments;
@@ -563,4 +502,15 @@ fn aim(o: Levels, constant: bool, mode: PointerMode) -> Levels
             mode,
         },
     )
+}
+
+// How a target is opened: a pointer's, or that of a pointer's modifier.
+fn way_to(modified: bool) -> Way
+    ensures { λ r. ⌜ r ≡ wayTo modified ⌝ }
+{
+    if modified {
+        Way::TargetOfModifier
+    } else {
+        Way::Target
+    }
 }

@@ -4,7 +4,7 @@ use mathlib.Core.Path.{_≡_, refl, ap, sym, _∙_}
 use mathlib.Core.List.{List, [], _∷_, _++_}
 use mathlib.Core.Bool.{Bool, true, false, _||_, _&&_, not}
 use lib.Dec.{eqb, leb}
-use lib.ListN.{length}
+use lib.ListN.{length, take}
 use native.Mathlib.Decide.{decLt}
 use native.Mathlib.Numerals.{add-one}
 use native.Mathlib.Omega.{arith}
@@ -18,8 +18,7 @@ use Rattle.streams.specs.declared.refusal.Refusal.the-variants.{
   FunctionIdIsNotProcedureType,
   MemberFunctionIdIsNotMemberFunctionType,
 }
-use Rattle.streams.specs.declared.stream.Stream.{Stream}
-use Rattle.codeview.specs.Read.{readType, readId}
+use Rattle.codeview.specs.Read.{readId}
 use Rattle.codeview.specs.declared.record.Entries.{Entries}
 use Rattle.codeview.specs.declared.record.ProcedureType.{ProcedureType}
 use Rattle.codeview.specs.declared.record.MemberFunctionType.{MemberFunctionType}
@@ -28,17 +27,17 @@ use Rattle.codeview.specs.declared.record.MemberFunctionId.{MemberFunctionId}
 use Rattle.codeview.specs.declared.record.StringId.{StringId}
 use Rattle.codeview.specs.declared.record.TypeData.{TypeData}
 use Rattle.codeview.specs.declared.record.TypeData.the-variants as type
-use Rattle.codeview.specs.declared.record.TypeRead.{TypeRead}
-use Rattle.codeview.specs.declared.record.TypeRead.the-variants.{Good, Refused}
 use Rattle.codeview.specs.declared.record.IdData.{IdData}
 use Rattle.codeview.specs.declared.record.IdData.the-variants as id
 use Rattle.codeview.specs.declared.record.IdRead.{IdRead}
 use Rattle.codeview.specs.declared.record.IdRead.the-variants as idRead
 use Rattle.codeview.proofs.record.TypeData.{the-type}
 use Rattle.codeview.proofs.record.IdData.{the-type as the-id-type}
+use Rattle.codeview.proofs.Tags.{by-tag}
 use Rattle.reading.specs.Trace.{
   Trace,
   tr,
+  refused,
   halted,
   long,
   count,
@@ -71,7 +70,6 @@ use Rattle.rules.specs.Record.{
   procedureOr,
   methodOr,
   typeContents,
-  typeReading,
   idContents,
   idReading,
   tableOf,
@@ -114,32 +112,20 @@ use Rattle.rules.specs.Rules.{
   ruled,
 }
 use Rattle.rules.proofs.Rank.{ranked}
-use Rattle.pen.specs.Page.{Page, Wrote, idle, say, step, opened, unreadTrace, _⨾_}
-use Rattle.pen.proofs.Laws.{_▸_, wrote-as, wrote-by, wrote-same, wrote-idle}
+use Rattle.pen.specs.declared.Pen.{Pen}
+use Rattle.pen.specs.Page.{Page, page, Wrote, say, step, _⨾_}
 use Rattle.context.specs.declared.flags.Call.{Call}
-use Rattle.context.specs.Context.{settingsOf, tableIn, keysOf, hasIndex, holding, entryNo, Entering}
+use Rattle.context.specs.declared.seen.Way.the-variants as way
+use Rattle.context.specs.declared.seen.TypeOpening.{TypeOpening}
+use Rattle.context.specs.declared.seen.TypeOpening.the-variants as typeOpening
+use Rattle.context.specs.Context.{settingsOf, tableIn, keysOf, holding}
+use Rattle.context.specs.Opening.{OpensType}
+use Rattle.context.proofs.Opening.{walk-on, type-stopped, type-open}
 use Rattle.writers.specs.Writers.{markTrace}
 use Rattle.pieces.specs.Pieces.{staticText}
 use Rattle.emit.specs.Walking.{methodOf}
-use Rattle.emit.proofs.Laws.{
-  walk-in,
-  walk-on,
-  read-good,
-  read-bad,
-  unread-is,
-  marked-is,
-  returned-is,
-  in-turn,
-  from,
-  from-all,
-  from-next,
-  from-none,
-}
-use Rattle.id_writers.specs.declared.ProcedureRead.{ProcedureRead}
-use Rattle.id_writers.specs.declared.ProcedureRead.the-variants as procedureRead
-use Rattle.id_writers.specs.declared.MethodRead.{MethodRead}
-use Rattle.id_writers.specs.declared.MethodRead.the-variants as methodRead
-use Rattle.id_writers.specs.Ids.{further, byProcedure, byMethod, ProcedureIs, MethodIs, otherText}
+use Rattle.emit.proofs.Laws.{marked-is, returned-is, in-turn}
+use Rattle.id_writers.specs.Ids.{further, otherText}
 
 -- The tags of the kinds that are no procedure, no method, neither; and of the ids that are no function's.
 abbrev pub noProcedure : List ℕ
@@ -156,48 +142,15 @@ noFunctionId = 1 ∷ 2 ∷ 3 ∷ 4 ∷ []
 
 procedure-none : (s : List ℕ) (f : ℕ → Bool → ℕ → Rule) (z : Rule) (t : TypeData) → OneOf noProcedure (tagOf the-type t) → procedureOr (typeContents s t) f z ≡ z
 unfolding typeContents
-procedure-none s f z (type.Primitive p) n = refl
-procedure-none s f z (type.Modifier m) n = refl
-procedure-none s f z (type.Pointer p) n = refl
-procedure-none s f z (type.Procedure p) n = absurd (miss noProcedure 3 tt n)
-procedure-none s f z (type.MemberFunction m) n = refl
-procedure-none s f z (type.ArgumentList e) n = refl
-procedure-none s f z (type.Enumerate e) n = refl
-procedure-none s f z (type.Array a) n = refl
-procedure-none s f z (type.Class k) n = refl
-procedure-none s f z (type.Union u) n = refl
-procedure-none s f z (type.Enumeration e) n = refl
-procedure-none s f z (type.Unhandled k) n = refl
+procedure-none s f z = by-tag noProcedure (λ t. procedureOr (typeContents s t) f z ≡ z) search
 
 method-none : (s : List ℕ) (f : Method → Rule) (z : Rule) (t : TypeData) → OneOf noMethod (tagOf the-type t) → methodOr (typeContents s t) f z ≡ z
 unfolding typeContents
-method-none s f z (type.Primitive p) n = refl
-method-none s f z (type.Modifier m) n = refl
-method-none s f z (type.Pointer p) n = refl
-method-none s f z (type.Procedure p) n = refl
-method-none s f z (type.MemberFunction m) n = absurd (miss noMethod 4 tt n)
-method-none s f z (type.ArgumentList e) n = refl
-method-none s f z (type.Enumerate e) n = refl
-method-none s f z (type.Array a) n = refl
-method-none s f z (type.Class k) n = refl
-method-none s f z (type.Union u) n = refl
-method-none s f z (type.Enumeration e) n = refl
-method-none s f z (type.Unhandled k) n = refl
+method-none s f z = by-tag noMethod (λ t. methodOr (typeContents s t) f z ≡ z) search
 
 function-none : (c : Settings) (s name : List ℕ) (t : TypeData) → OneOf noFunction (tagOf the-type t) → functionText c name (typeContents s t) ≡ write name
 unfolding typeContents functionText
-function-none c s name (type.Primitive p) n = refl
-function-none c s name (type.Modifier m) n = refl
-function-none c s name (type.Pointer p) n = refl
-function-none c s name (type.Procedure p) n = absurd (miss noFunction 3 tt n)
-function-none c s name (type.MemberFunction m) n = absurd (miss noFunction 4 tt n)
-function-none c s name (type.ArgumentList e) n = refl
-function-none c s name (type.Enumerate e) n = refl
-function-none c s name (type.Array a) n = refl
-function-none c s name (type.Class k) n = refl
-function-none c s name (type.Union u) n = refl
-function-none c s name (type.Enumeration e) n = refl
-function-none c s name (type.Unhandled k) n = refl
+function-none c s name = by-tag noFunction (λ t. functionText c name (typeContents s t) ≡ write name) search
 
 other-id : (c : Settings) (s : List ℕ) (d : IdData) → OneOf noFunctionId (tagOf the-id-type d) → otherText c (idContents s d) ≡ idText c (idContents s d)
 unfolding otherText idContents
@@ -206,46 +159,6 @@ other-id c s (id.MemberFunction m) n = refl
 other-id c s (id.StringList e) n = refl
 other-id c s (id.String t) n = refl
 other-id c s (id.Unhandled k) n = refl
-
--- The function type of an id.
-module _ (s : List ℕ) (t : Stream) (i : ℕ) (r : TypeRead) (e : r ≡ readType s t i) where
-  seen-good : (x : TypeData) → r ≡ Good x → typeReading s (readType s t i) ≡ good (typeContents s x)
-  unfolding typeReading
-  seen-good x f = let k : readType s t i ≡ Good x = cc in rw k
-
-  seen-bad : (f : Refusal) → r ≡ Refused f → typeReading s (readType s t i) ≡ bad f
-  unfolding typeReading
-  seen-bad f g = let k : readType s t i ≡ Refused f = cc in rw k
-
-  pub procedure-good : (x : TypeData) (p : ProcedureType) → r ≡ Good x → x ≡ type.Procedure p → i < 4_294_967_296 → ProcedureIs s t i (procedureRead.Good p)
-  unfolding byProcedure typeContents
-  procedure-good x p f g l = record { is = λ k. rw (seen-good x f, g); small = l }
-
-  pub procedure-wrong : (x : TypeData) → r ≡ Good x → OneOf noProcedure (tagOf the-type x) → i < 4_294_967_296
-      → ProcedureIs s t i (procedureRead.Refused (FunctionIdIsNotProcedureType i))
-  unfolding byProcedure unread
-  procedure-wrong x f n l =
-      record {
-        is = λ k. rw (seen-good x f) (sym (procedure-none s k (refuse (FunctionIdIsNotProcedureType i)) x n));
-        small = l;
-      }
-
-  pub procedure-bad : (f : Refusal) → r ≡ Refused f → i < 4_294_967_296 → ProcedureIs s t i (procedureRead.Refused f)
-  unfolding byProcedure
-  procedure-bad f g l = record { is = λ k. rw (seen-bad f g); small = l }
-
-  pub method-good : (x : TypeData) (p : MemberFunctionType) → r ≡ Good x → x ≡ type.MemberFunction p → MethodIs s t i (methodRead.Good p)
-  unfolding byMethod typeContents
-  method-good x p f g = record { is = λ k. rw (seen-good x f, g) }
-
-  pub method-wrong : (x : TypeData) → r ≡ Good x → OneOf noMethod (tagOf the-type x)
-      → MethodIs s t i (methodRead.Refused (MemberFunctionIdIsNotMemberFunctionType i))
-  unfolding byMethod unread
-  method-wrong x f n = record { is = λ k. rw (seen-good x f) (sym (method-none s k (refuse (MemberFunctionIdIsNotMemberFunctionType i)) x n)) }
-
-  pub method-bad : (f : Refusal) → r ≡ Refused f → MethodIs s t i (methodRead.Refused f)
-  unfolding byMethod
-  method-bad f g = record { is = λ k. rw (seen-bad f g) }
 
 -- The parts of a signature, whatever is held.
 module _ (c : Settings) (t : Table) (h : Held) where
@@ -311,19 +224,6 @@ module _ (c : Settings) (t : Table) (h : Held) where
       (sym (in-turn (walked c t h (idOf scope)) (say (bytes "::")) (ruled c t h (seq (write (functionName name)) (procedureArguments c list)))))
       ∙ rw (ne-eqb scope 0 g)
 
-  pub strings-none : (b : Bool) → say [] ≡ ruled c t h (stringEntries c b [])
-  unfolding ruled exec stringEntries
-  strings-none b = refl
-
-  pub strings-more : (b : Bool) (a : ℕ) (al : List ℕ)
-      → say (pick b (bytes "\" \"") []) ⨾ walked c t h (byItself a) ⨾ ruled c t h (stringEntries c true al) ≡ ruled c t h (stringEntries c b (a ∷ al))
-  unfolding ruled exec stringEntries _⨾_
-  strings-more b a al = refl
-
-entering-none : (i : ℕ) → Entering [] i 0
-unfolding entryNo keysOf hasIndex
-entering-none i = record { number = refl; free = λ e. omega arith }
-
 module _ (s d : List ℕ) (call : Call) where
   abbrev c : Settings
   c = settingsOf call
@@ -333,10 +233,6 @@ module _ (s d : List ℕ) (call : Call) where
 
   abbrev h : Held
   h = holding call []
-
-  first-in : (q : Task) (i : ℕ) (m : List ℕ) (p : Rule) → entryOf c t q ≡ opens (key 0 i) → i < 4_294_967_296 → m ≡ (0 * 4_294_967_296 + i) ∷ []
-      → body c t q ≡ p → opened ⨾ ruled c t (holding call m) p ≡ walked c t h q
-  first-in q i m p e l z k = walk-in s d call [] q 0 i 0 m p e (entering-none i) refl l z k
 
   -- A function.
   pub function-zero : (i : ℕ) (name : List ℕ) → i ≡ 0 → step ⨾ say (functionName name) ≡ walked c t h (functionOf i name)
@@ -353,70 +249,49 @@ module _ (s d : List ℕ) (call : Call) where
   function-body zero name n = absurd (n refl)
   function-body (suc i) name n = refl
 
-  module _ (i : ℕ) (name : List ℕ) (n : i ≡ 0 → ⊥) (r : TypeRead) (m : List ℕ) (l : i < 4_294_967_296) (z : m ≡ (0 * 4_294_967_296 + i) ∷ [])
-      (e : r ≡ readType s (call .types) i) where
-    function-in : (p : Rule) → inside (t .types i) (functionText c name) ≡ p → opened ⨾ ruled c t (holding call m) p ≡ walked c t h (functionOf i name)
-    function-in p k = first-in (functionOf i name) i m p (function-entry i name n) l z (function-body i name n ∙ k)
+  module _ (i : ℕ) (name : List ℕ) (n : i ≡ 0 → ⊥) {p : Pen} {list l : List ℕ} {r : TypeOpening} (b : List ℕ)
+      (z : OpensType s (call .types) p list [] way.Function i l r) (room : length list ≡ 96) where
+    pub function-stopped : {q : Pen} → r ≡ typeOpening.Stopped q → Wrote (page b p) (walked c t h (functionOf i name)) (page b q)
+    function-stopped f = type-stopped s d call [] (functionOf i name) way.Function i (function-entry i name n) (functionText c name) (function-body i name n) b z room f
 
-    pub function-bad : (f : Refusal) → r ≡ Refused f → opened ⨾ unreadTrace f ≡ walked c t h (functionOf i name)
-    function-bad f g =
-        let k : t .types i ≡ bad f = read-bad s d call [] i r f e g in
-        ap (λ (x : Trace Refusal). opened ⨾ x) (unread-is c t (holding call m) f) ∙ function-in (unread f) (rw k)
+    pub function-open : {q : Pen} {k : ℕ} {x : TypeData} {j : Page} → r ≡ typeOpening.Open q k x
+        → Wrote (page b q) (ruled c t (holding call (take k l)) (functionText c name (typeContents s x))) j → Wrote (page b p) (walked c t h (functionOf i name)) j
+    function-open f v = type-open s d call [] (functionOf i name) way.Function i (function-entry i name n) (functionText c name) (function-body i name n) b z room f v
 
-    pub function-method : (x : TypeData) (p : MemberFunctionType) → r ≡ Good x → x ≡ type.MemberFunction p
-        → opened ⨾ ruled c t (holding call m) (methodNamed c (methodOf p) (write []) name) ≡ walked c t h (functionOf i name)
-    unfolding functionText typeContents
-    function-method x p f g =
-        let k : t .types i ≡ good (typeContents s x) = read-good s d call [] i r x e f in
-        function-in (methodNamed c (methodOf p) (write []) name) (rw (k, g))
+  -- A member function id, and a function id.
+  module _ (i : ℕ) (name : List ℕ) {p : Pen} {list l : List ℕ} {r : TypeOpening} (b : List ℕ) (z : OpensType s (call .types) p list [] way.Function i l r)
+      (room : length list ≡ 96) where
+    module _ (parent : ℕ) where
+      member-entry : entryOf c t (memberId parent i name) ≡ opens (key 0 i)
+      unfolding entryOf
+      member-entry = refl
 
-    pub function-procedure : (x : TypeData) (p : ProcedureType) → r ≡ Good x → x ≡ type.Procedure p
-        → opened ⨾ ruled c t (holding call m) (procedureNamed c (p .result .0) (p .constructor) (p .arguments .0) (write []) name) ≡ walked c t h (functionOf i name)
-    unfolding functionText typeContents
-    function-procedure x p f g =
-        let k : t .types i ≡ good (typeContents s x) = read-good s d call [] i r x e f in
-        function-in (procedureNamed c (p .result .0) (p .constructor) (p .arguments .0) (write []) name) (rw (k, g))
+      member-body : body c t (memberId parent i name) ≡ inside (t .types i) (memberIdText c parent i name)
+      unfolding body
+      member-body = refl
 
-    pub function-other : (x : TypeData) → r ≡ Good x → OneOf noFunction (tagOf the-type x) → opened ⨾ say name ≡ walked c t h (functionOf i name)
-    unfolding ruled exec
-    function-other x f a =
-        let k : t .types i ≡ good (typeContents s x) = read-good s d call [] i r x e f in
-        function-in (write name) (rw k (function-none c s name x a))
+      pub member-stopped : {q : Pen} → r ≡ typeOpening.Stopped q → Wrote (page b p) (walked c t h (memberId parent i name)) (page b q)
+      member-stopped f = type-stopped s d call [] (memberId parent i name) way.Function i member-entry (memberIdText c parent i name) member-body b z room f
 
-  -- A member function id.
-  module _ (parent i : ℕ) (name : List ℕ) (r : MethodRead) (m : List ℕ) (l : i < 4_294_967_296) (z : m ≡ (0 * 4_294_967_296 + i) ∷ [])
-      (e : MethodIs s (call .types) i r) where
-    member-in : (p : Rule) → byMethod r (λ q. methodNamed c q (seq (trace.call (byItself parent)) (write (bytes "::"))) name) ≡ p
-        → opened ⨾ ruled c t (holding call m) p ≡ walked c t h (memberId parent i name)
-    unfolding entryOf body memberIdText tableIn tableOf
-    member-in p k = first-in (memberId parent i name) i m p refl l z (sym (e .is (λ q. methodNamed c q (seq (trace.call (byItself parent)) (write (bytes "::"))) name)) ∙ k)
+      pub member-open : {q : Pen} {k : ℕ} {x : TypeData} {j : Page} → r ≡ typeOpening.Open q k x
+          → Wrote (page b q) (ruled c t (holding call (take k l)) (memberIdText c parent i name (typeContents s x))) j → Wrote (page b p) (walked c t h (memberId parent i name)) j
+      member-open f v = type-open s d call [] (memberId parent i name) way.Function i member-entry (memberIdText c parent i name) member-body b z room f v
 
-    pub member-good : (p : MemberFunctionType) → r ≡ methodRead.Good p → (bs : List ℕ) → bs ≡ name
-        → opened ⨾ ruled c t (holding call m) (methodNamed c (methodOf p) (seq (trace.call (byItself parent)) (write (bytes "::"))) bs) ≡ walked c t h (memberId parent i name)
-    unfolding byMethod
-    member-good p f bs a = rw a (member-in (methodNamed c (methodOf p) (seq (trace.call (byItself parent)) (write (bytes "::"))) name) (rw f))
+    module _ (scope : ℕ) where
+      function-id-entry : entryOf c t (functionId scope i name) ≡ opens (key 0 i)
+      unfolding entryOf
+      function-id-entry = refl
 
-    pub member-bad : (f : Refusal) → r ≡ methodRead.Refused f → opened ⨾ unreadTrace f ≡ walked c t h (memberId parent i name)
-    unfolding byMethod
-    member-bad f g = ap (λ (x : Trace Refusal). opened ⨾ x) (unread-is c t (holding call m) f) ∙ member-in (unread f) (rw g)
+      function-id-body : body c t (functionId scope i name) ≡ inside (t .types i) (functionIdText c scope i name)
+      unfolding body
+      function-id-body = refl
 
-  -- A function id.
-  module _ (scope i : ℕ) (name : List ℕ) (r : ProcedureRead) (m : List ℕ) (l : i < 4_294_967_296) (z : m ≡ (0 * 4_294_967_296 + i) ∷ [])
-      (e : ProcedureIs s (call .types) i r) where
-    function-id-in : (p : Rule) → byProcedure r (λ u b list. procedureNamed c u b list (scopeText c scope) name) ≡ p
-        → opened ⨾ ruled c t (holding call m) p ≡ walked c t h (functionId scope i name)
-    unfolding entryOf body functionIdText tableIn tableOf
-    function-id-in p k = first-in (functionId scope i name) i m p refl l z (sym (e .is (λ u b list. procedureNamed c u b list (scopeText c scope) name)) ∙ k)
+      pub function-id-stopped : {q : Pen} → r ≡ typeOpening.Stopped q → Wrote (page b p) (walked c t h (functionId scope i name)) (page b q)
+      function-id-stopped f = type-stopped s d call [] (functionId scope i name) way.Function i function-id-entry (functionIdText c scope i name) function-id-body b z room f
 
-    function-id-good : (p : ProcedureType) → r ≡ procedureRead.Good p
-        → opened ⨾ ruled c t (holding call m) (procedureNamed c (p .result .0) (p .constructor) (p .arguments .0) (scopeText c scope) name)
-        ≡ walked c t h (functionId scope i name)
-    unfolding byProcedure
-    function-id-good p f = function-id-in (procedureNamed c (p .result .0) (p .constructor) (p .arguments .0) (scopeText c scope) name) (rw f)
-
-    pub function-id-bad : (f : Refusal) → r ≡ procedureRead.Refused f → opened ⨾ unreadTrace f ≡ walked c t h (functionId scope i name)
-    unfolding byProcedure
-    function-id-bad f g = ap (λ (x : Trace Refusal). opened ⨾ x) (unread-is c t (holding call m) f) ∙ function-id-in (unread f) (rw g)
+      pub function-id-open : {q : Pen} {k : ℕ} {x : TypeData} {j : Page} → r ≡ typeOpening.Open q k x
+          → Wrote (page b q) (ruled c t (holding call (take k l)) (functionIdText c scope i name (typeContents s x))) j → Wrote (page b p) (walked c t h (functionId scope i name)) j
+      function-id-open f v = type-open s d call [] (functionId scope i name) way.Function i function-id-entry (functionIdText c scope i name) function-id-body b z room f v
 
   -- An id: it is read, then counted in its chain, and starts a list of its own, so what is open before it does not matter.
   module _ (o : List ℕ) (i : ℕ) (r : IdRead) (e : r ≡ readId d (call .ids) i) where
@@ -457,26 +332,62 @@ module _ (s d : List ℕ) (call : Call) where
   id-held : (o : List ℕ) (i : ℕ) → walked c t h (idOf i) ≡ walked c t (holding call o) (idOf i)
   id-held o i = held-by o i (readId d (call .ids) i) refl (decLt (call .chain) 32)
 
-  module _ (scope i : ℕ) (name : List ℕ) (r : ProcedureRead) (m : List ℕ) (l : i < 4_294_967_296) (z : m ≡ (0 * 4_294_967_296 + i) ∷ [])
-      (e : ProcedureIs s (call .types) i r) (p : ProcedureType) (f : r ≡ procedureRead.Good p) where
-    abbrev rest : List ℕ → Rule
-    rest before = seq (write before) (seq (write (functionName name)) (procedureArguments c (p .arguments .0)))
+  -- What is done with a function type that was read, by its kind, whatever is open.
+  module _ (o : List ℕ) (x : TypeData) where
+    abbrev k : Held
+    k = holding call o
 
-    abbrev first : Rule
-    first = returned c (procedureResult c (p .constructor) (p .result .0))
+    pub function-method : (name : List ℕ) (p : MemberFunctionType) → x ≡ type.MemberFunction p
+        → ruled c t k (methodNamed c (methodOf p) (write []) name) ≡ ruled c t k (functionText c name (typeContents s x))
+    unfolding functionText typeContents
+    function-method name p e = rw e
 
-    pub function-id-alone : scope ≡ 0 → opened ⨾ ruled c t (holding call m) first ⨾ ruled c t (holding call m) (rest []) ≡ walked c t h (functionId scope i name)
-    function-id-alone g =
-        ap (λ (x : Trace Refusal). opened ⨾ x) (scoped-none c t (holding call m) (p .result .0) (p .arguments .0) scope (p .constructor) name g)
-        ∙ function-id-good scope i name r m l z e p f
+    pub function-procedure : (name : List ℕ) (p : ProcedureType) → x ≡ type.Procedure p
+        → ruled c t k (procedureNamed c (p .result .0) (p .constructor) (p .arguments .0) (write []) name) ≡ ruled c t k (functionText c name (typeContents s x))
+    unfolding functionText typeContents
+    function-procedure name p e = rw e
 
-    pub function-id-scoped : (scope ≡ 0 → ⊥)
-        → opened ⨾ ruled c t (holding call m) first ⨾ walked c t h (idOf scope) ⨾ ruled c t (holding call m) (rest (bytes "::"))
-        ≡ walked c t h (functionId scope i name)
-    function-id-scoped g =
-        ap (λ (x : Trace Refusal). opened ⨾ ruled c t (holding call m) first ⨾ x ⨾ ruled c t (holding call m) (rest (bytes "::"))) (id-held m scope)
-        ∙ ap (λ (x : Trace Refusal). opened ⨾ x) (scoped c t (holding call m) (p .result .0) (p .arguments .0) scope (p .constructor) name g)
-        ∙ function-id-good scope i name r m l z e p f
+    pub function-other : (name : List ℕ) → OneOf noFunction (tagOf the-type x) → say name ≡ ruled c t k (functionText c name (typeContents s x))
+    unfolding ruled exec
+    function-other name n = rw (function-none c s name x n)
+
+    module _ (i : ℕ) (name : List ℕ) where
+      pub member-wrong : (parent : ℕ) → OneOf noMethod (tagOf the-type x)
+          → tr [] (refused (MemberFunctionIdIsNotMemberFunctionType i)) [] (count 0 0) ≡ ruled c t k (memberIdText c parent i name (typeContents s x))
+      unfolding ruled exec memberIdText
+      member-wrong parent n = rw (method-none s (λ m. methodNamed c m (seq (trace.call (byItself parent)) (write (bytes "::"))) name) (refuse (MemberFunctionIdIsNotMemberFunctionType i)) x n)
+
+      pub member-right : (parent : ℕ) (p : MemberFunctionType) (bs : List ℕ) → x ≡ type.MemberFunction p → bs ≡ name
+          → ruled c t k (methodNamed c (methodOf p) (seq (trace.call (byItself parent)) (write (bytes "::"))) bs) ≡ ruled c t k (memberIdText c parent i name (typeContents s x))
+      unfolding memberIdText typeContents
+      member-right parent p bs e f = rw (e, f)
+
+      pub function-id-wrong : (scope : ℕ) → OneOf noProcedure (tagOf the-type x)
+          → tr [] (refused (FunctionIdIsNotProcedureType i)) [] (count 0 0) ≡ ruled c t k (functionIdText c scope i name (typeContents s x))
+      unfolding ruled exec functionIdText
+      function-id-wrong scope n = rw (procedure-none s (λ u b list. procedureNamed c u b list (scopeText c scope) name) (refuse (FunctionIdIsNotProcedureType i)) x n)
+
+      module _ (scope : ℕ) (p : ProcedureType) (e : x ≡ type.Procedure p) where
+        abbrev rest : List ℕ → Rule
+        rest before = seq (write before) (seq (write (functionName name)) (procedureArguments c (p .arguments .0)))
+
+        abbrev first : Rule
+        first = returned c (procedureResult c (p .constructor) (p .result .0))
+
+        function-id-is : ruled c t k (procedureNamed c (p .result .0) (p .constructor) (p .arguments .0) (scopeText c scope) name)
+            ≡ ruled c t k (functionIdText c scope i name (typeContents s x))
+        unfolding functionIdText typeContents
+        function-id-is = rw e
+
+        pub function-id-alone : scope ≡ 0 → ruled c t k first ⨾ ruled c t k (rest []) ≡ ruled c t k (functionIdText c scope i name (typeContents s x))
+        function-id-alone g = scoped-none c t k (p .result .0) (p .arguments .0) scope (p .constructor) name g ∙ function-id-is
+
+        pub function-id-scoped : (scope ≡ 0 → ⊥)
+            → ruled c t k first ⨾ walked c t h (idOf scope) ⨾ ruled c t k (rest (bytes "::")) ≡ ruled c t k (functionIdText c scope i name (typeContents s x))
+        function-id-scoped g =
+            ap (λ (y : Trace Refusal). ruled c t k first ⨾ y ⨾ ruled c t k (rest (bytes "::"))) (id-held o scope)
+            ∙ scoped c t k (p .result .0) (p .arguments .0) scope (p .constructor) name g
+            ∙ function-id-is
 
 -- The end of a signature, by the bytes of its name.
 pub end-named : (c : Settings) (t : Table) (h : Held) (before bs name : List ℕ) (list : ℕ) → bs ≡ name
@@ -539,36 +450,3 @@ module _ (s d : List ℕ) (call : Call) (x : IdData) where
   pub other-unhandled : (n : ℕ) → x ≡ id.Unhandled n → say (unhandledScope n) ≡ other
   unfolding ruled exec otherText idText idContents
   other-unhandled n e = rw e
-
--- The loop over a string list: whatever the rest makes of the page, the whole makes of the first page.
-pub record Rest (s d : List ℕ) (call : Call) (between : Bool) (e : Entries) (i : ℕ) (g h : Page) : Type 0 where
-  pub goes : (k : Page)
-      → Wrote g (ruled (settingsOf call) (tableIn s d call) (holding call []) (stringEntries (settingsOf call) between (from d e i))) k
-      → Wrote h (ruled (settingsOf call) (tableIn s d call) (holding call []) (stringEntries (settingsOf call) false (numbersAt d (e .start) (e .count)))) k
-
-module _ (s d : List ℕ) (call : Call) (between : Bool) (e : Entries) where
-  abbrev listed : Bool → List ℕ → Trace Refusal
-  listed b l = ruled (settingsOf call) (tableIn s d call) (holding call []) (stringEntries (settingsOf call) b l)
-
-  pub rest-all : (g : Page) → Rest s d call false e 0 g g
-  rest-all g = record { goes = λ k w. wrote-as (ap (listed false) (from-all d e)) w }
-
-  module _ (i : ℕ) (g h : Page) (r : Rest s d call between e i g h) where
-    pub rest-next : (a : ℕ) (f m : Page) → i < e .count → a ≡ number 4 d (e .start + 4 * i) → Wrote g (say (pick between (bytes "\" \"") [])) f
-        → Wrote f (walked (settingsOf call) (tableIn s d call) (holding call []) (byItself a)) m → Rest s d call true e (i + 1) m h
-    rest-next a f m l q v w =
-        record {
-          goes = λ k z. r .goes k
-              (wrote-by (v ▸ w ▸ z)
-              (strings-more (settingsOf call) (tableIn s d call) (holding call []) between a (from d e (i + 1))
-              ∙ ap (listed between) (rw q (sym (from-next d e i l)))));
-        }
-
-    pub rest-none : e .count ≤ i → Wrote h (listed false (numbersAt d (e .start) (e .count))) g
-    rest-none l =
-        r .goes g
-        (wrote-same
-        (strings-none (settingsOf call) (tableIn s d call) (holding call []) between ∙ ap (listed between) (sym (from-none d e i l))))
-
-    pub rest-idle : idle (g .pen .stop) ≡ true → Wrote h (listed false (numbersAt d (e .start) (e .count))) g
-    rest-idle l = r .goes g (wrote-idle l)

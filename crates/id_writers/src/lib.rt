@@ -12,7 +12,7 @@ ghost use Rattle.rules.specs.Rules.{byItself, functionOf, idOf, memberId, proce
 ghost use Rattle.pen.specs.Page.{page, Wrote};
 ghost use Rattle.context.specs.Context.{settingsOf};
 ghost use Rattle.emit.specs.Walking.{walking, ruling, methodOf};
-ghost use Rattle.id_writers.specs.Ids.{further, ProcedureIs, MethodIs, otherText};
+ghost use Rattle.id_writers.specs.Ids.{further, otherText};
 use codeview::ids::id_at;
 use codeview::index::IdIndex;
 use codeview::index::TypeIndex;
@@ -24,10 +24,10 @@ use codeview::record::MemberFunctionId;
 use codeview::record::MemberFunctionType;
 use codeview::record::ProcedureType;
 use codeview::record::TypeData;
-use codeview::record::TypeRead;
-use codeview::types::type_at;
 use context::flags::Call;
-use context::seen::insert;
+use context::seen::TypeOpening;
+use context::seen::Way;
+use context::seen::open_type;
 use emit::emit_method_args;
 use emit::emit_return_type;
 use emit::emit_type_index;
@@ -39,54 +39,11 @@ use pieces::hides_return;
 use pieces::is_void;
 use pieces::maybe_emit_static;
 use streams::refusal::Refusal;
-use streams::stream::Stream;
 use writers::marks::mark;
 use writers::marks::unhandled_scope;
 use writers::names::emit_name_str;
 use writers::names::name_of;
 use writers::strings::emit_string;
-
-// The function type of a function id, or the refusal.
-pub enum ProcedureRead {
-    Good(ProcedureType),
-    Refused(Refusal),
-}
-
-// The function type of a member function id, or the refusal.
-pub enum MethodRead {
-    Good(MemberFunctionType),
-    Refused(Refusal),
-}
-
-fn procedure_at(types: &[u8], stream: Stream, index: TypeIndex) -> ProcedureRead
-    ensures { λ r. ⌜ ProcedureIs (now (types .entry)) stream (index .0) r ⌝ }
-{
-    match type_at(types, stream, index) {
-        TypeRead::Good(t) => {
-            let TypeData::Procedure(x) = t else {
-                return ProcedureRead::Refused(Refusal::FunctionIdIsNotProcedureType(index.0));
-            };
-            ProcedureRead::Good(x)
-        }
-        TypeRead::Refused(f) => ProcedureRead::Refused(f),
-    }
-}
-
-fn method_at(types: &[u8], stream: Stream, index: TypeIndex) -> MethodRead
-    ensures { λ r. ⌜ MethodIs (now (types .entry)) stream (index .0) r ⌝ }
-{
-    match type_at(types, stream, index) {
-        TypeRead::Good(t) => {
-            let TypeData::MemberFunction(m) = t else {
-                return MethodRead::Refused(Refusal::MemberFunctionIdIsNotMemberFunctionType(
-                    index.0,
-                ));
-            };
-            MethodRead::Good(m)
-        }
-        TypeRead::Refused(f) => MethodRead::Refused(f),
-    }
-}
 
 // One id further in the chain of scopes.
 fn deeper(call: Call) -> Call
@@ -210,11 +167,17 @@ pub fn emit_function(
     }
     let none = [0u64; 1];
     let mut list = [0u64; 96];
-    let n = insert(&mut list, &none[..0], 0, index.0);
-    let q = pen::tick(out, p);
     let stream = call.types;
-    match type_at(types, stream, index) {
-        TypeRead::Good(t) => match t {
+    match open_type(
+        types,
+        stream,
+        p,
+        &mut list,
+        &none[..0],
+        Way::Function,
+        index,
+    ) {
+        TypeOpening::Open(q, n, t) => match t {
             TypeData::MemberFunction(m) => emit_method(
                 types,
                 ids,
@@ -228,7 +191,7 @@ pub fn emit_function(
             TypeData::Procedure(x) => emit_procedure(types, ids, out, q, call, &list[..n], name, x),
             _ => pen::text(out, q, name),
         },
-        TypeRead::Refused(f) => pen::unread(out, q, f),
+        TypeOpening::Stopped(q) => q,
     }
 }
 
@@ -295,22 +258,28 @@ fn emit_member_id(
     let name = d.name;
     let none = [0u64; 1];
     let mut list = [0u64; 96];
-    let n = insert(&mut list, &none[..0], 0, function.0);
-    let q = pen::tick(out, p);
     let stream = call.types;
-    match method_at(types, stream, function) {
-        MethodRead::Good(m) => emit_member(
-            types,
-            ids,
-            out,
-            q,
-            call,
-            &list[..n],
-            parent,
-            name_of(ids, name),
-            m,
-        ),
-        MethodRead::Refused(f) => pen::unread(out, q, f),
+    match open_type(
+        types,
+        stream,
+        p,
+        &mut list,
+        &none[..0],
+        Way::Function,
+        function,
+    ) {
+        TypeOpening::Open(q, n, t) => {
+            let TypeData::MemberFunction(m) = t else {
+                return pen::refuse(
+                    out,
+                    q,
+                    Refusal::MemberFunctionIdIsNotMemberFunctionType(function.0),
+                );
+            };
+            let shown = name_of(ids, name);
+            emit_member(types, ids, out, q, call, &list[..n], parent, shown, m)
+        }
+        TypeOpening::Stopped(q) => q,
     }
 }
 
@@ -384,11 +353,21 @@ pub fn emit_id(
             let function = f.function;
             let none = [0u64; 1];
             let mut list = [0u64; 96];
-            let n = insert(&mut list, &none[..0], 0, function.0);
-            let q = pen::tick(out, p);
             let stream = inner.types;
-            match procedure_at(types, stream, function) {
-                ProcedureRead::Good(x) => {
+            match open_type(
+                types,
+                stream,
+                p,
+                &mut list,
+                &none[..0],
+                Way::Function,
+                function,
+            ) {
+                TypeOpening::Open(q, n, t) => {
+                    let TypeData::Procedure(x) = t else {
+                        let wrong = Refusal::FunctionIdIsNotProcedureType(function.0);
+                        return pen::refuse(out, q, wrong);
+                    };
                     let scope = f.scope;
                     let a = emit_result(types, ids, out, q, inner, &list[..n], x);
                     if scope.0 == 0 {
@@ -397,7 +376,7 @@ pub fn emit_id(
                     let b = emit_id(types, ids, out, a, inner, allowance - 1, scope);
                     emit_id_end(types, ids, out, b, inner, &list[..n], b"::", f, x)
                 }
-                ProcedureRead::Refused(f) => pen::unread(out, q, f),
+                TypeOpening::Stopped(q) => q,
             }
         }
         IdRead::Refused(f) => mark(out, p, f),

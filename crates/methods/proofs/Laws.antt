@@ -41,7 +41,7 @@ use Rattle.rules.specs.Record.{
 use Rattle.rules.specs.Rules.{Rule, inside, thisPointer}
 use Rattle.methods.specs.declared.ThisRead.{ThisRead}
 use Rattle.methods.specs.declared.ThisRead.the-variants.{Given, Other, Refused}
-use Rattle.methods.specs.This.{reading, modified, pointeeOf, thisOf, byThis}
+use Rattle.methods.specs.This.{reading, throughModifier, pointeeOf, thisOf, byThis}
 
 -- A reading by what `type_at` gives.
 pub read-good : (s : List ℕ) (r q : TypeRead) (t : TypeData) → r ≡ q → r ≡ typeRead.Good t → typeReading s q ≡ good (typeContents s t)
@@ -59,9 +59,9 @@ notModifier = 0 ∷ 2 ∷ 3 ∷ 4 ∷ 5 ∷ 6 ∷ 7 ∷ 8 ∷ 9 ∷ 10 ∷ 11 �
 abbrev pub notPointer : List ℕ
 notPointer = 0 ∷ 1 ∷ 3 ∷ 4 ∷ 5 ∷ 6 ∷ 7 ∷ 8 ∷ 9 ∷ 10 ∷ 11 ∷ []
 
-no-modifier : (s : List ℕ) (class : ℕ) (t : TypeData) → OneOf notModifier (tagOf the-type t) → modified class (typeContents s t) ≡ Other
-unfolding modified typeContents
-no-modifier s class = by-tag notModifier (λ t. modified class (typeContents s t) ≡ Other) search
+no-modifier : (s : List ℕ) (class : ℕ) (t : TypeData) → OneOf notModifier (tagOf the-type t) → throughModifier class (typeContents s t) ≡ Other
+unfolding throughModifier typeContents
+no-modifier s class = by-tag notModifier (λ t. throughModifier class (typeContents s t) ≡ Other) search
 
 no-pointer : (s : List ℕ) (t : TypeData) (f : ℕ → ThisRead) → OneOf notPointer (tagOf the-type t)
     → pointerOr (typeContents s t) (λ u mode a size. f u) Other ≡ Other
@@ -80,12 +80,12 @@ pointee-other s types u class t h e n = rw (ne-eqb _ _ h, e) (sym (no-modifier s
 
 pub pointee-given : (s : List ℕ) (types : ℕ → Read Record) (u class : ℕ) (t : TypeData) (m : ModifierType) → (u ≡ class → ⊥)
     → types u ≡ good (typeContents s t) → t ≡ type.Modifier m → m .underlying .0 ≡ class → Given (m .constant) ≡ pointeeOf types u class
-unfolding pointeeOf reading modified typeContents
+unfolding pointeeOf reading throughModifier typeContents
 pointee-given s types u class t m h e k g = rw (ne-eqb _ _ h, e, k, eq-eqb _ _ g)
 
 pub pointee-apart : (s : List ℕ) (types : ℕ → Read Record) (u class : ℕ) (t : TypeData) (m : ModifierType) → (u ≡ class → ⊥)
     → types u ≡ good (typeContents s t) → t ≡ type.Modifier m → (m .underlying .0 ≡ class → ⊥) → Other ≡ pointeeOf types u class
-unfolding pointeeOf reading modified typeContents
+unfolding pointeeOf reading throughModifier typeContents
 pointee-apart s types u class t m h e k g = rw (ne-eqb _ _ h, e, k, ne-eqb _ _ g)
 
 pub pointee-unread : (types : ℕ → Read Record) (u class : ℕ) (f : Refusal) → (u ≡ class → ⊥) → types u ≡ bad f
@@ -125,8 +125,8 @@ inside-is (good q) f g k h = h q
 inside-is (bad e) f g k h = refl
 
 modified-is : (class : ℕ) (k : Bool → Bool → Rule) (q : Record)
-    → modifierOr q (λ v b. pick (eqb v class) (k false (b .constant)) (k true false)) (k true false) ≡ byThis (modified class q) k
-unfolding modified byThis
+    → modifierOr q (λ v b. pick (eqb v class) (k false (b .constant)) (k true false)) (k true false) ≡ byThis (throughModifier class q) k
+unfolding throughModifier byThis
 modified-is class k (pointer t m a z) = refl
 modified-is class k (modifier v b) = picked (eqb v class) (Given (b .constant)) Other _ _ k refl refl
 modified-is class k (procedure r c a) = refl
@@ -140,7 +140,7 @@ pointee-is : (types : ℕ → Read Record) (u class : ℕ) (k : Bool → Bool �
     → pick (eqb u class) (k false false) (inside (types u) (λ q. modifierOr q (λ v b. pick (eqb v class) (k false (b .constant)) (k true false)) (k true false)))
     ≡ byThis (pointeeOf types u class) k
 unfolding pointeeOf byThis
-pointee-is types u class k = picked (eqb u class) (Given false) _ _ _ k refl (inside-is (types u) _ (modified class) k (modified-is class k))
+pointee-is types u class k = picked (eqb u class) (Given false) _ _ _ k refl (inside-is (types u) _ (throughModifier class) k (modified-is class k))
 
 pointer-is : (types : ℕ → Read Record) (class : ℕ) (k : Bool → Bool → Rule) (r : Record)
     → pointerOr r

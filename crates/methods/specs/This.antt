@@ -14,11 +14,11 @@ reading (good r) f = f r
 reading (bad e) f = Refused e
 
 -- What is pointed to: the class, or a modifier of it.
-unfoldable pub modified : ℕ → Record → ThisRead
-modified class q = modifierOr q (λ v b. pick (eqb v class) (Given (b .constant)) Other) Other
+unfoldable pub throughModifier : ℕ → Record → ThisRead
+throughModifier class q = modifierOr q (λ v b. pick (eqb v class) (Given (b .constant)) Other) Other
 
 unfoldable pub pointeeOf : (ℕ → Read Record) → ℕ → ℕ → ThisRead
-pointeeOf types u class = pick (eqb u class) (Given false) (reading (types u) (modified class))
+pointeeOf types u class = pick (eqb u class) (Given false) (reading (types u) (throughModifier class))
 
 unfoldable pub thisOf : (ℕ → Read Record) → ℕ → ℕ → ThisRead
 thisOf types this class =

@@ -1,11 +1,11 @@
 -- The laws of pages that proofs cite, so that no proof elsewhere opens a definition of `Page`. Assumes nothing.
 use Prim.Native.Nat.{ℕ, zero, suc, _+_, _-_, _<_, _≤_}
 use mathlib.Core.Logic.{_⊎_, inl, inr}
-use mathlib.Core.Path.{_≡_, refl, ap, sym, _∙_}
+use mathlib.Core.Path.{_≡_, refl, ap, sym, _∙_, subst}
 use mathlib.Core.List.{List, [], _∷_, _++_}
 use mathlib.Core.Bool.{Bool, true, false}
 use lib.ListN.{length, set, take, drop, getD, length-set}
-use lib.Dec.{leb, ltb}
+use lib.Dec.{eqb, leb, ltb}
 use lib.Seq.{take-suc, take-all, sets, sets-eq}
 use native.Mathlib.Decide.{decLt}
 use native.Mathlib.Numerals.{add-one}
@@ -15,11 +15,16 @@ use borrow.Author.Tests.{ne-eqb, lt-ltb, le-ltb, lt-leb, le-leb}
 use Rattle.wire.specs.Field.{pick}
 use Rattle.streams.specs.declared.refusal.Refusal.{Refusal}
 use Rattle.streams.specs.declared.refusal.Refusal.the-variants.{CircularTypeDefinition, TooManyOpen, ChainTooLong, NoRoom}
+use Rattle.streams.specs.declared.refusal.Refusal.the-variants as refusal
+use Rattle.streams.specs.Refusal.{numberOf, detailOf}
+use Rattle.streams.proofs.refusal.Refusal.{the-type}
+use denote.Enum.Declared.{tagOf}
+use package.types.Run.{OneOf}
 use Rattle.reading.specs.Trace.{Mark, End, done, missing, refused, halted, unfinished, again, deep, long, Count, count, Trace, tr, prefix, then, asked, caught}
 use Rattle.pen.specs.declared.Pen.{Pen}
 use Rattle.pen.specs.declared.Stop.{Stop}
 use Rattle.pen.specs.declared.Stop.the-variants.{No, Missing, Refused}
-use Rattle.pen.specs.Page.{Page, page, gone, put, putAt, unlessStopped, ink, more, ticked, tick, opening, stopOf, endAs, finish, run, Wrote, say, step, lastSince, resumed, goOn, Caught, idle, opened, barred, last, _⨾_, ending, marking, bytesOf, refusedPen, unreadTrace}
+use Rattle.pen.specs.Page.{Page, page, gone, put, putAt, unlessStopped, ink, more, ticked, tick, opening, stopOf, endAs, finish, run, Wrote, say, step, lastSince, resumed, goOn, Caught, idle, opened, last, _⨾_, ending, marking, bytesOf, refusedPen, missedPen, unreadPen, counted, unreadTrace}
 
 -- one byte, by cases
 pub put-fits : (buf : List ℕ) (p : Pen) (b : ℕ) → p .stop ≡ No → p .at < p .limit
@@ -218,19 +223,76 @@ pub wrote-step : {g : Page} → Wrote g step g
 unfolding ink opening step
 wrote-step {g} = record { is = sym (run-done g [] [] (count 0 1)) }
 
-tick-full-at : (x : Stop) (b : List ℕ) (at l o lim : ℕ) → x ≡ No → 18446744073709551615 ≤ o
-    → let g = page b (record { at = at; last = l; opened = o; limit = lim; stop = x }) in g ≡ tick g
-unfolding tick
-tick-full-at No b at l o lim e h = rw (le-ltb o 18446744073709551615 h)
-tick-full-at (Missing i) b at l o lim e h = refl
-tick-full-at (Refused f) b at l o lim e h = refl
+-- a count that is full stays
+counted-full-at : (x : Stop) (at l o lim : ℕ) → x ≡ No → 18446744073709551615 ≤ o
+    → let p : Pen = record { at = at; last = l; opened = o; limit = lim; stop = x } in p ≡ counted p
+unfolding counted
+counted-full-at No at l o lim e h = rw (le-ltb o 18446744073709551615 h)
+counted-full-at (Missing i) at l o lim e h = refl
+counted-full-at (Refused f) at l o lim e h = refl
 
-pub tick-full : (b : List ℕ) (p : Pen) → p .stop ≡ No → 18446744073709551615 ≤ p .opened → page b p ≡ tick (page b p)
-tick-full b p e h = tick-full-at (p .stop) b (p .at) (p .last) (p .opened) (p .limit) e h
+pub counted-full : (p : Pen) → p .stop ≡ No → 18446744073709551615 ≤ p .opened → p ≡ counted p
+counted-full p e h = counted-full-at (p .stop) (p .at) (p .last) (p .opened) (p .limit) e h
 
-pub wrote-tick : (g h : Page) → h ≡ tick g → Wrote g opened h
+wrote-tick : (g h : Page) → h ≡ tick g → Wrote g opened h
 unfolding ink opening opened
 wrote-tick g h e = record { is = e ∙ sym (run-done g [] [] (count 1 1)) }
+
+counted-page : (x : Stop) (b : List ℕ) (p : Pen) → page b (unlessStopped x (ticked p) p) ≡ unlessStopped x (page b (ticked p)) (page b p)
+counted-page No b p = refl
+counted-page (Missing i) b p = refl
+counted-page (Refused f) b p = refl
+
+pub wrote-counted : (b : List ℕ) (p q : Pen) → q ≡ counted p → Wrote (page b p) opened (page b q)
+unfolding counted tick
+wrote-counted b p q e = wrote-tick (page b p) (page b q) (rw e (counted-page (p .stop) b p))
+
+-- a pen that has not stopped, refused
+pub refused-alive : (p : Pen) (f : Refusal) → idle (p .stop) ≡ false → refusedPen p f ≡ gone (p .limit) f
+unfolding refusedPen
+refused-alive p f h = by (p .stop) h
+  where
+    by : (x : Stop) → idle x ≡ false → unlessStopped x (gone (p .limit) f) p ≡ gone (p .limit) f
+    by No h = refl
+    by (Missing i) h = absurd (let z : _≡_ {A = ℕ} 0 1 = cc in omega arith)
+    by (Refused g) h = absurd (let z : _≡_ {A = ℕ} 0 1 = cc in omega arith)
+
+-- what could not be read inside a type
+pub wrote-unread : (b : List ℕ) (p q : Pen) (f : Refusal) → q ≡ unreadPen p f → Wrote (page b p) (unreadTrace f) (page b q)
+unfolding unreadPen unreadTrace missedPen stopOf
+wrote-unread b p q f e = by (eqb (numberOf f) 8) e
+  where
+    by : (x : Bool) → q ≡ pick x (unlessStopped (p .stop) (endAs p (Missing (detailOf f))) p) (refusedPen p f)
+        → Wrote (page b p) (pick x (tr [] (missing (detailOf f)) [] (count 0 0)) (tr [] (refused f) [] (count 0 0))) (page b q)
+    by true h = wrote-missing b p q (detailOf f) (ap (λ (x : Pen). page b x) h)
+    by false h = wrote-stop b p q (refused f) 0 f refl h
+
+-- A refusal's number is its place among the cases, from 1 on: so one that is none of some cases has none of their numbers.
+number-place : (f : Refusal) → numberOf f ≡ suc (tagOf the-type f)
+number-place (refusal.UnknownFlags flags) = refl
+number-place (refusal.PointerSize size) = refl
+number-place (refusal.Header stream) = refl
+number-place (refusal.Tiling stream) = refl
+number-place (refusal.Malformed index) = refl
+number-place (refusal.CrossModule index) = refl
+number-place (refusal.UnlistedKind kind) = refl
+number-place (refusal.Missing index) = refl
+number-place (refusal.ArgumentTypeNotArgumentList index) = refl
+number-place (refusal.FunctionIdIsNotProcedureType index) = refl
+number-place (refusal.MemberFunctionIdIsNotMemberFunctionType index) = refl
+number-place (refusal.CircularTypeDefinition index) = refl
+number-place (refusal.TooManyOpen index) = refl
+number-place (refusal.ChainTooLong index) = refl
+number-place refusal.NoRoom = refl
+number-place (refusal.UnknownCommand command) = refl
+
+-- The cases but 8.
+abbrev pub notMissing : List ℕ
+notMissing = 0 ∷ 1 ∷ 2 ∷ 3 ∷ 4 ∷ 5 ∷ 6 ∷ 8 ∷ 9 ∷ 10 ∷ 11 ∷ 12 ∷ 13 ∷ 14 ∷ 15 ∷ []
+
+pub not-number : (k : ℕ) (ks : List ℕ) (f : Refusal) → (OneOf ks k → ⊥) → OneOf ks (tagOf the-type f) → eqb (numberOf f) (suc k) ≡ false
+not-number k ks f h n =
+    ne-eqb (numberOf f) (suc k) (λ e. let p = number-place f in let q : tagOf the-type f ≡ k = omega arith in h (subst (OneOf ks) q n))
 
 -- the last byte written
 Ended : Page → ℕ → ℕ → Type 0

@@ -53,6 +53,10 @@ more n = pick (ltb n 18446744073709551615) (n + 1) n
 abbrev pub ticked : Pen → Pen
 ticked p = record { at = p .at; last = p .last; opened = more (p .opened); limit = p .limit; stop = No }
 
+-- a pen that has not stopped counts it
+unfoldable pub counted : Pen → Pen
+counted p = unlessStopped (p .stop) (ticked p) p
+
 unfoldable pub tick : Page → Page
 tick g = unlessStopped (g .pen .stop) (page (g .buf) (ticked (g .pen))) g
 
@@ -119,11 +123,6 @@ idle (Refused f) = true
 unfoldable pub opened : Trace Refusal
 opened = tr [] done [] (count 1 1)
 
--- Which of the two marks keeps an index from being opened: it is open already, or 96 are.
-unfoldable pub barred : Bool → ℕ → End Refusal
-barred true i = halted (again i)
-barred false i = halted (deep i)
-
 -- The last byte of a text; b, where it is empty.
 unfoldable pub last : ℕ → List ℕ → ℕ
 last b [] = b
@@ -148,7 +147,14 @@ bytesOf (tr bs e ns c) = bs
 unfoldable pub refusedPen : Pen → Refusal → Pen
 refusedPen p f = unlessStopped (p .stop) (gone (p .limit) f) p
 
--- What could not be read inside a type: a missing record ends the text, anything else is refused.
+-- A pen that has not stopped ends its text at a missing index.
+unfoldable pub missedPen : Pen → ℕ → Pen
+missedPen p i = unlessStopped (p .stop) (endAs p (Missing i)) p
+
+-- What could not be read inside a type: a missing record ends the text, anything else is refused. The pen, and the trace.
+unfoldable pub unreadPen : Pen → Refusal → Pen
+unreadPen p f = pick (eqb (numberOf f) 8) (missedPen p (detailOf f)) (refusedPen p f)
+
 unfoldable pub unreadTrace : Refusal → Trace Refusal
 unreadTrace f =
     pick (eqb (numberOf f) 8) (tr [] (missing (detailOf f)) [] (count 0 0)) (tr [] (refused f) [] (count 0 0))

@@ -3,8 +3,8 @@
 ghost use mathlib.Core.Path.{_≡_};
 ghost use mathlib.Core.List.{[]};
 ghost use lib.ListN.{set};
-ghost use Rattle.reading.specs.Trace.{tr, missing, refused, halted, long, count};
-ghost use Rattle.pen.specs.Page.{page, put, Wrote, lastSince, resumed, refusedPen, say, idle, opened, barred, unreadTrace};
+ghost use Rattle.reading.specs.Trace.{tr, refused, halted, long, count};
+ghost use Rattle.pen.specs.Page.{page, put, Wrote, lastSince, resumed, refusedPen, missedPen, unreadPen, counted, say, idle, unreadTrace};
 use streams::refusal::Refusal;
 
 pub enum Stop {
@@ -83,7 +83,7 @@ pub fn text(out: &mut [u8], p: Pen, s: &[u8]) -> Pen
 }
 
 // A pen that has not stopped is refused.
-fn stopped(p: Pen, f: Refusal) -> Pen
+pub fn stopped(p: Pen, f: Refusal) -> Pen
     ensures { λ r. ⌜ r ≡ refusedPen p f ⌝ }
 {
     let stop = p.stop;
@@ -108,19 +108,9 @@ pub fn too_long(out: &[u8], p: Pen, index: u32) -> Pen
     stopped(p, Refusal::ChainTooLong(index))
 }
 
-// An index that may not be opened: it is open already, or 96 are.
-pub fn bar(out: &[u8], p: Pen, again: bool, index: u32) -> Pen
-    ensures { λ r. ⌜ Wrote (page (now (out .entry)) p) (tr [] (barred again index) [] (count 0 1)) (page (now (out .entry)) r) ⌝ }
-{
-    if again {
-        return stopped(p, Refusal::CircularTypeDefinition(index));
-    }
-    stopped(p, Refusal::TooManyOpen(index))
-}
-
 // An index is missing: the text that is being written ends here.
-pub fn miss(out: &[u8], p: Pen, index: u32) -> Pen
-    ensures { λ r. ⌜ Wrote (page (now (out .entry)) p) (tr [] (missing index) [] (count 0 0)) (page (now (out .entry)) r) ⌝ }
+fn missed(p: Pen, index: u32) -> Pen
+    ensures { λ r. ⌜ r ≡ missedPen p index ⌝ }
 {
     let stop = p.stop;
     match stop {
@@ -137,18 +127,25 @@ pub fn miss(out: &[u8], p: Pen, index: u32) -> Pen
 }
 
 // What could not be read inside a type: a missing record ends the text, anything else is refused.
+pub fn unreadable(p: Pen, f: Refusal) -> Pen
+    ensures { λ r. ⌜ r ≡ unreadPen p f ⌝ }
+{
+    match f {
+        Refusal::Missing(index) => missed(p, index),
+        _ => stopped(p, f),
+    }
+}
+
+// The same, said of the page.
 pub fn unread(out: &[u8], p: Pen, f: Refusal) -> Pen
     ensures { λ r. ⌜ Wrote (page (now (out .entry)) p) (unreadTrace f) (page (now (out .entry)) r) ⌝ }
 {
-    if f.number() == 8 {
-        return miss(out, p, f.detail());
-    }
-    refuse(out, p, f)
+    unreadable(p, f)
 }
 
 // One index more was opened.
-pub fn tick(out: &[u8], p: Pen) -> Pen
-    ensures { λ r. ⌜ Wrote (page (now (out .entry)) p) opened (page (now (out .entry)) r) ⌝ }
+pub fn tick(p: Pen) -> Pen
+    ensures { λ r. ⌜ r ≡ counted p ⌝ }
 {
     let stop = p.stop;
     match stop {

@@ -21,11 +21,11 @@ use Rattle.codeview.proofs.record.TypeData.{the-type}
 use Rattle.codeview.proofs.Tags.{by-tag}
 use Rattle.rules.specs.Flags.{Settings}
 use Rattle.rules.specs.Record.{nameAt, typeContents}
-use Rattle.rules.specs.Rules.{namedText}
+use Rattle.rules.specs.Rules.{comma, namedText}
 use Rattle.rules.specs.Text.{worded, classText, unhandledType, Level, levels}
 use Rattle.pen.specs.Page.{say}
 use Rattle.parts.specs.Parts.{behindWord}
-use Rattle.pieces.specs.Pieces.{commaText, staticText, recordText, isSign}
+use Rattle.pieces.specs.Pieces.{staticText, recordText, isSign}
 
 -- Bytes past the end count as zeros, and so does a number made of them.
 pub number-past : (width : ℕ) (s : List ℕ) (at : ℕ) → length s ≤ at → number width s at ≡ 0
@@ -43,12 +43,12 @@ number-four s at a b c d e f g h =
     rw (e, f, g, h, x, y) (omega arith)
 
 -- The comma, with and without its space.
-pub comma-spaced : (c : Settings) (space between : Bool) → space ≡ c .spaceComma → space ≡ true → say (pick between (bytes ", ") []) ≡ say (commaText c between)
-unfolding commaText
+pub comma-spaced : (c : Settings) (space between : Bool) → space ≡ c .spaceComma → space ≡ true → say (pick between (bytes ", ") []) ≡ say (pick between (comma c) [])
+unfolding comma
 comma-spaced c space between e h = rw (sym e ∙ h)
 
-pub comma-close : (c : Settings) (space between : Bool) → space ≡ c .spaceComma → space ≡ false → say (pick between (bytes ",") []) ≡ say (commaText c between)
-unfolding commaText
+pub comma-close : (c : Settings) (space between : Bool) → space ≡ c .spaceComma → space ≡ false → say (pick between (bytes ",") []) ≡ say (pick between (comma c) [])
+unfolding comma
 comma-close c space between e h = rw (sym e ∙ h)
 
 -- `static `, by the flag and by the this pointer.

@@ -10,10 +10,6 @@ use Rattle.rules.specs.Flags.{Settings}
 use Rattle.rules.specs.Record.{typeContents, namedOr}
 use Rattle.rules.specs.Rules.{namedText}
 
--- The comma before an entry that is not the first.
-unfoldable pub commaText : Settings → Bool → List ℕ
-commaText c between = pick between (pick (c .spaceComma) (bytes ", ") (bytes ",")) []
-
 unfoldable pub staticText : Settings → ℕ → List ℕ
 staticText c this = pick (eqb this 0 && not (c .noStatic)) (bytes "static ") []
 

@@ -4,11 +4,13 @@ ghost use mathlib.Core.Bool.{true, _||_, _&&_};
 ghost use Prim.Native.Nat.{_+_, _*_};
 ghost use lib.Dec.{eqb};
 ghost use lib.ListN.{getD};
-ghost use Rattle.wire.specs.Field.{number};
+ghost use mathlib.Core.List.{[]};
+ghost use Rattle.wire.specs.Field.{number, pick};
+ghost use Rattle.rules.specs.Rules.{comma};
 ghost use Rattle.rules.specs.Text.{levels};
 ghost use Rattle.pen.specs.Page.{page, Wrote, say, lastSince};
 ghost use Rattle.context.specs.Context.{settingsOf, levelsOf};
-ghost use Rattle.pieces.specs.Pieces.{commaText, staticText, recordText, isSign};
+ghost use Rattle.pieces.specs.Pieces.{staticText, recordText, isSign};
 use codeview::index::TypeIndex;
 use codeview::record::Entries;
 use codeview::record::TypeData;
@@ -90,7 +92,7 @@ pub fn hides_return(call: Call, none: bool) -> bool
 
 // The comma between two arguments.
 pub fn emit_comma(out: &mut [u8], p: Pen, call: Call, between: bool) -> Pen
-    ensures { λ r. ⌜ Wrote (page (now (out .entry)) p) (say (commaText (settingsOf call) between)) (page (now (out .exit)) r) ⌝ }
+    ensures { λ r. ⌜ Wrote (page (now (out .entry)) p) (say (pick between (comma (settingsOf call)) [])) (page (now (out .exit)) r) ⌝ }
 {
     if space_comma(call) {
         return text_if(out, p, between, b", ");
@@ -140,8 +142,8 @@ pub fn emit_attributes_since(out: &mut [u8], p: Pen, call: Call, o: Levels, star
     ensures { λ r. ⌜ Wrote (page (now (out .entry)) p) (say (levels (settingsOf call) true (isSign (lastSince p start)) (levelsOf o))) (page (now (out .exit)) r) ⌝ }
 {
     let last = pen::last_since(p, start);
-    if last == 42 {
+    if last == b'*' {
         return emit_attributes(out, p, call, o, true, true);
     }
-    emit_attributes(out, p, call, o, true, last == 38)
+    emit_attributes(out, p, call, o, true, last == b'&')
 }

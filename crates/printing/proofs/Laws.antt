@@ -15,7 +15,7 @@ use Rattle.sheet.specs.declared.Printed.{Printed}
 use Rattle.sheet.specs.declared.State.{State}
 use Rattle.sheet.specs.declared.Step.{Step}
 use Rattle.sheet.specs.declared.Step.the-variants as step
-use Rattle.printing.specs.Turns.{told, turns, allTurns, Finished}
+use Rattle.printing.specs.Turns.{told, turns, allTurns, AllTold}
 
 -- No more lines fit than there are, and no sheet has more lines than bytes.
 fit-most : (room : ℕ) (ls : List (List ℕ)) → fit room ls .lines ≤ length ls
@@ -109,7 +109,7 @@ module _ (all : List (List ℕ)) {buf₀ buf : List ℕ} {skip : ℕ} (w : Turni
     pub told-all : told out (skip + p .lines) ≡ allTurns all buf₀
     told-all = sym (one (w .left) ∙ rw m) ∙ w .is
 
-    pub finished-all : Finished all (length buf₀) (skip + p .lines)
+    pub finished-all : AllTold all (length buf₀) (skip + p .lines)
     unfolding fit
     finished-all =
         let g : drop (skip + p .lines) all ≡ [] = rw (← lines-is) (k .over (more-is ∙ m)) in
@@ -121,7 +121,7 @@ module _ (all : List (List ℕ)) {buf₀ buf : List ℕ} {skip : ℕ} (w : Turni
     pub told-stuck : told out (skip + p .lines) ≡ allTurns all buf₀
     told-stuck = sym (one (w .left) ∙ rw (m, h)) ∙ w .is
 
-    pub finished-stuck : Finished all (length buf₀) (skip + p .lines)
+    pub finished-stuck : AllTold all (length buf₀) (skip + p .lines)
     finished-stuck =
         let z : skip + p .lines ≡ skip = omega arith in
         record {

@@ -32,6 +32,6 @@ unfoldable pub allTurns : List (List ℕ) → List ℕ → Told
 allTurns all buf = turns (suc (length all)) all buf 0
 
 -- So many lines are all that a buffer takes: one more turn prints none, and 4,150 bytes take every line.
-pub record Finished (all : List (List ℕ)) (room n : ℕ) : Type 0 where
+pub record AllTold (all : List (List ℕ)) (room n : ℕ) : Type 0 where
   pub over : fit room (drop n all) .lines ≡ 0
   pub whole : 4150 ≤ room → n ≡ length all

@@ -3,7 +3,7 @@ ghost use mathlib.Core.Path.{_≡_};
 ghost use lib.ListN.{length, drop};
 ghost use Rattle.sheet.specs.Sheet.{fit, sheetLines};
 ghost use Rattle.sheet.specs.Printed.{shown, laidOut, Continues};
-ghost use Rattle.printing.specs.Turns.{told, allTurns, Finished};
+ghost use Rattle.printing.specs.Turns.{told, allTurns, AllTold};
 use sheet::Printed;
 
 // Room for the bytes of a file that are read: the first 16,384.
@@ -27,7 +27,7 @@ fn print_some(types: &[u8], ids: &[u8], sheet: &[u8], out: &mut [u8], skip: usiz
 // All lines of a sheet, turn after turn, and how many they are. A buffer that is too short for a line ends the run before that line.
 pub fn print_lines(types: &[u8], ids: &[u8], sheet: &[u8], out: &mut [u8]) -> usize
     ensures { λ r. ⌜ told (now (out .exit)) r ≡ allTurns (sheetLines (now (types .entry)) (now (ids .entry)) (now (sheet .entry))) (now (out .entry)) ⌝ }
-    ensures { λ r. ⌜ Finished (sheetLines (now (types .entry)) (now (ids .entry)) (now (sheet .entry))) (length (now (out .entry))) r ⌝ }
+    ensures { λ r. ⌜ AllTold (sheetLines (now (types .entry)) (now (ids .entry)) (now (sheet .entry))) (length (now (out .entry))) r ⌝ }
 {
     let mut skip = 0;
     loop {

@@ -14,7 +14,45 @@ use Rattle.reading.proofs.Laws.{Calls, Ranked}
 use Rattle.rules.specs.Flags.{Settings}
 use Rattle.rules.specs.Record.{Method, Named, class, union, enumeration, enumerate, kindOnly, Record, pointer, modifier, procedure, method, arguments, array, primitive, named, Read, good, bad, IdRecord, Table}
 use Rattle.rules.specs.Text.{missingMark, unimplementedMark}
-use Rattle.rules.specs.Rules.{Task, byItself, functionOf, target, targetOfModifier, modified, listOf, element, sizeOf, idOf, functionId, memberId, Rule, inside, baseText, asItself, unless, unread, marked, result, procedureResult, returned, methodArguments, procedureArguments, entries, typeText, alone, elementText, namedSize, recordSize, sizeStep, idAlone, afterRead, entryOf, body, rank}
+use Rattle.rules.specs.Rules.{
+  listed,
+  Task,
+  byItself,
+  functionOf,
+  target,
+  targetOfModifier,
+  modified,
+  listOf,
+  element,
+  sizeOf,
+  idOf,
+  functionId,
+  memberId,
+  Rule,
+  inside,
+  baseText,
+  asItself,
+  unless,
+  unread,
+  marked,
+  result,
+  procedureResult,
+  returned,
+  methodArguments,
+  procedureArguments,
+  entries,
+  typeText,
+  alone,
+  elementText,
+  namedSize,
+  recordSize,
+  sizeStep,
+  idAlone,
+  afterRead,
+  entryOf,
+  body,
+  rank,
+}
 
 pub low : (t : Task) → rank t < 256
 unfolding rank
@@ -61,7 +99,7 @@ module _ (c : Settings) (m : ℕ) where
   result-falls false i = (omega arith, tt)
 
   entries-fall : (b : Bool) (l : List ℕ) → Calls Below (entries c b l)
-  unfolding Calls entries rank
+  unfolding Calls listed rank
   entries-fall b [] = tt
   entries-fall b (a ∷ l) = (tt, (omega arith, entries-fall true l))
 

@@ -170,6 +170,11 @@ unfoldable pub fullOr : Read Record → List ℕ → ℕ → ℕ
 fullOr (good r) name other = namedOr r (λ x. fullNamed x name other) other
 fullOr (bad f) name other = other
 
+-- Indexes by themselves, a text between every two of them, and before the first too where something stands there.
+unfoldable pub listed : List ℕ → Bool → List ℕ → Rule
+listed sep between [] = write []
+listed sep between (a ∷ al) = write (pick between sep []) >> call (byItself a) >> listed sep true al
+
 module _ (c : Settings) where
   -- An index by itself and a space: a result, unless it is a constructor's (`emit_return_type`).
   unfoldable pub result : Bool → ℕ → Rule
@@ -190,11 +195,13 @@ module _ (c : Settings) where
   unfoldable pub procedureArguments : ℕ → Rule
   procedureArguments list = unless (c .noArguments) (say "(" >> call (byItself list) >> say ")")
 
-  -- Entries by themselves, a comma before each but the first, or before all (`emit_arg_list`); SPACE_AFTER_COMMA.
-  unfoldable pub entries : Bool → List ℕ → Rule
-  entries comma [] = write []
-  entries comma (a ∷ al) =
-      write (pick comma (pick (c .spaceComma) (bytes ", ") (bytes ",")) []) >> call (byItself a) >> entries true al
+  -- What stands between two arguments; SPACE_AFTER_COMMA. The entries of an argument list, a comma before each but the first, or before all
+  -- (`emit_arg_list`).
+  unfoldable pub comma : List ℕ
+  comma = pick (c .spaceComma) (bytes ", ") (bytes ",")
+
+  abbrev pub entries : Bool → List ℕ → Rule
+  entries between list = listed comma between list
 
   -- What a text names.
   unfoldable pub namedText : Named → List ℕ
@@ -379,9 +386,8 @@ module _ (c : Settings) where
       (refuse (MemberFunctionIdIsNotMemberFunctionType t))
 
   -- "A string list writes its entries as types", in quotes.
-  unfoldable pub stringEntries : Bool → List ℕ → Rule
-  stringEntries between [] = write []
-  stringEntries between (a ∷ al) = write (pick between (bytes "\" \"") []) >> call (byItself a) >> stringEntries true al
+  abbrev pub stringEntries : Bool → List ℕ → Rule
+  stringEntries between list = listed (bytes "\" \"") between list
 
   -- An id (`emit_id`).
   unfoldable pub idText : IdRecord → Rule

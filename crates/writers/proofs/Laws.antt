@@ -46,18 +46,9 @@ unfolding numeral
 numeral-more b zero n x h k e = absurd (h refl)
 numeral-more b (suc l) n x h k e = let d : suc l - 1 ≡ l = omega arith in simp (le-ltb _ _ k, e, d)
 
--- What could not be read, by its number.
-pub mark-missing : (f : Refusal) (n d : ℕ) → n ≡ numberOf f → d ≡ detailOf f → n ≡ 8 → say (missingMark d) ≡ markTrace f
-unfolding markTrace
-mark-missing f n d e g h = simp (eq-eqb _ _ (sym e ∙ h), g)
-
-pub mark-unimplemented : (f : Refusal) (n d : ℕ) → n ≡ numberOf f → d ≡ detailOf f → (n ≡ 8 → ⊥) → n ≡ 7 → say (unimplementedMark d) ≡ markTrace f
-unfolding markTrace
-mark-unimplemented f n d e g z h = simp (ne-eqb (numberOf f) 8 (λ x. z (e ∙ x)), eq-eqb _ _ (sym e ∙ h), g)
-
-pub mark-refused : (f : Refusal) (n : ℕ) → n ≡ numberOf f → (n ≡ 8 → ⊥) → (n ≡ 7 → ⊥) → tr [] (refused f) [] (count 0 0) ≡ markTrace f
-unfolding markTrace
-mark-refused f n e z y = simp (ne-eqb (numberOf f) 8 (λ x. z (e ∙ x)), ne-eqb (numberOf f) 7 (λ x. y (e ∙ x)))
+-- The cases of a refusal but 7 and 8.
+abbrev pub noMark : List ℕ
+noMark = 0 ∷ 1 ∷ 2 ∷ 3 ∷ 4 ∷ 5 ∷ 8 ∷ 9 ∷ 10 ∷ 11 ∷ 12 ∷ 13 ∷ 14 ∷ 15 ∷ []
 
 -- The part of a name that is there.
 pub name-past : (s : List ℕ) (n : Name) → length s < n .start → take (length s - length s) (drop (length s) s) ≡ nameAt s n

@@ -62,11 +62,9 @@ pub fn marked(out: &mut [u8], p: Pen) -> Pen
 pub fn mark(out: &mut [u8], p: Pen, f: Refusal) -> Pen
     ensures { λ r. ⌜ Wrote (page (now (out .entry)) p) (markTrace f) (page (now (out .exit)) r) ⌝ }
 {
-    if f.number() == 8 {
-        return missing(out, p, f.detail());
+    match f {
+        Refusal::Missing(index) => missing(out, p, index),
+        Refusal::UnlistedKind(kind) => unimplemented(out, p, kind as u32),
+        _ => pen::refuse(out, p, f),
     }
-    if f.number() == 7 {
-        return unimplemented(out, p, f.detail());
-    }
-    pen::refuse(out, p, f)
 }

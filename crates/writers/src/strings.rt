@@ -4,27 +4,27 @@ ghost use Rattle.rules.specs.Text.{hexDigit, hexBelow, hexNumber, plusNumber, i
 ghost use Rattle.pen.specs.Page.{page, Wrote, say};
 use pen::Pen;
 
-// The value of a hexadecimal digit of either case, and 16 for any other byte.
+// The value of a hexadecimal digit of either case, and 16 for any other byte. (`:`, `G` and `g` follow the digits.)
 fn hex_value(b: u8) -> u8
     ensures { λ r. ⌜ r ≡ hexDigit b (λ d. d) 16 ⌝ }
 {
-    if b < 48 {
+    if b < b'0' {
         return 16;
     }
-    if b < 58 {
-        return b % 48;
+    if b < b':' {
+        return b % b'0';
     }
-    if b < 65 {
+    if b < b'A' {
         return 16;
     }
-    if b < 71 {
-        return b % 65 + 10;
+    if b < b'G' {
+        return b % b'A' + 10;
     }
-    if b < 97 {
+    if b < b'a' {
         return 16;
     }
-    if b < 103 {
-        return b % 97 + 10;
+    if b < b'g' {
+        return b % b'a' + 10;
     }
     16
 }
@@ -65,7 +65,7 @@ fn plus_number(s: &[u8]) -> bool
     if s.len() == 0 {
         return false;
     }
-    if s[0] == 43 {
+    if s[0] == b'+' {
         return hex_number(&s[1..]);
     }
     hex_number(s)
@@ -78,16 +78,16 @@ pub fn is_anonymous_namespace(s: &[u8]) -> bool
     if s.len() < 4 {
         return false;
     }
-    if s[0] != 63 {
+    if s[0] != b'?' {
         return false;
     }
-    if s[1] != 65 {
+    if s[1] != b'A' {
         return false;
     }
-    if s[2] != 48 {
+    if s[2] != b'0' {
         return false;
     }
-    if s[3] != 120 {
+    if s[3] != b'x' {
         return false;
     }
     plus_number(&s[4..])

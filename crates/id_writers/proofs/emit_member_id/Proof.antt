@@ -1,91 +1,82 @@
 -- The function type is opened in a list of its own, then read.
 -- Assumes nothing.
 use borrow.Author.Needs.{needs}
-use native.Mathlib.Omega.{arith}
-use mathlib.Core.Path.{sym, _∙_}
-use Rattle.pen.proofs.Laws.{_▸_, wrote-by, wrote-length}
-use Rattle.emit.proofs.Laws.{pushed-length}
-use Rattle.id_writers.proofs.Laws.{member-good, member-bad}
+use Rattle.pen.proofs.Laws.{wrote-by, wrote-length}
+use Rattle.context.proofs.Opening.{type-in}
+use Rattle.emit.proofs.Laws.{in-lent, in-fits}
+use Rattle.id_writers.proofs.Laws.{member-open, member-stopped, member-wrong, member-right}
 use Rattle.id_writers.proofs.emit_member_id.Statement.{statement}
 use Rattle.id_writers.proofs.emit_member_id.Tie as tie
-use Rattle.id_writers.proofs.emit_member_id.Reads as reads
-use Rattle.id_writers.proofs.emit_member_id.Lts as lts
-use Rattle.context.proofs.seen.insert.Reads as insert-reads
-use Rattle.id_writers.proofs.emit_member.Reads as emit-member-reads
-use Rattle.id_writers.proofs.method_at.Reads as method-at-reads
-use Rattle.pen.proofs.tick.Reads as tick-reads
-use Rattle.pen.proofs.unread.Reads as unread-reads
-use Rattle.writers.proofs.names.name_of.Reads as name-of-reads
 
-slice-aggregate-insert : tie.Need-slice-aggregate-insert
-slice-aggregate-insert c = search needs
+slice-aggregate-open-type : tie.Need-slice-aggregate-open-type
+slice-aggregate-open-type c = search needs
 
 array-share-prefix-none : tie.Need-array-share-prefix-none
 array-share-prefix-none c = search needs
 
-slice-aggregate-insert-2 : tie.Need-slice-aggregate-insert-2
-slice-aggregate-insert-2 c = search needs
+slice-aggregate-open-type-2 : tie.Need-slice-aggregate-open-type-2
+slice-aggregate-open-type-2 c = search needs
 
-insert-requires : tie.Need-insert-requires
-insert-requires c κs = omega arith
+open-type-requires : tie.Need-open-type-requires
+open-type-requires c κs = search needs
 
-tick-requires : tie.Need-tick-requires
-tick-requires c κs = search needs
+enum-known-q : tie.Need-enum-known-q
+enum-known-q c = search needs
 
-method-at-requires : tie.Need-method-at-requires
-method-at-requires c κs = search needs
+enum-known-t : tie.Need-enum-known-t
+enum-known-t c = search needs
 
-enum-known-m : tie.Need-enum-known-m
-enum-known-m c = search needs
+refuse-requires : tie.Need-refuse-requires
+refuse-requires c κs = search needs
 
-array-share-prefix-list : tie.Need-array-share-prefix-list
-array-share-prefix-list c = omega (arith, c .before .before .before .before .before .before .before .before .before .insert .ensures .1)
+same-length : tie.Need-same-length
+same-length c = search needs
 
-slice-aggregate-emit-member : tie.Need-slice-aggregate-emit-member
-slice-aggregate-emit-member c = c .before .before .before .before .before .before .before .before .before .before .insert .ensures .1 ∙ sym (pushed-length _ _ _ (c .before .before .before .before .before .before .before .before .before .before .insert .ensures .2))
+returns : tie.Need-returns
+returns c = member-open _ _ _ _ _ _ (c .before .before .before .before .before .before .before .open-type .ensures) (search needs) _ (c .before .before .before .before .q .given .1) (wrote-by (c .refuse .ensures) (member-wrong _ _ _ _ _ _ _ _ (c .before .before .match2 .keys2)))
 
 name-of-requires : tie.Need-name-of-requires
 name-of-requires c κs = search needs
 
+array-share-prefix-list : tie.Need-array-share-prefix-list
+array-share-prefix-list c = in-fits (type-in (c .before .before .before .before .before .before .before .before .before .open-type .ensures) (search needs) (c .before .before .before .before .before .before .q .given .1) .0)
+
+slice-aggregate-emit-member : tie.Need-slice-aggregate-emit-member
+slice-aggregate-emit-member c = in-lent (type-in (c .before .before .before .before .before .before .before .before .before .before .open-type .ensures) (search needs) (c .before .before .before .before .before .before .before .q .given .1) .0)
+
 emit-member-requires : tie.Need-emit-member-requires
 emit-member-requires c κs = search needs
 
-enum-known-f : tie.Need-enum-known-f
-enum-known-f c = search needs
-
-unread-requires : tie.Need-unread-requires
-unread-requires c κs = search needs
-
-same-length : tie.Need-same-length
-same-length c = wrote-length (c .before .before .emit-member .ensures)
-
-returns : tie.Need-returns
-returns c = wrote-by (c .before .before .before .before .before .before .before .before .before .before .before .tick .ensures ▸ c .before .before .emit-member .ensures) (member-good _ _ _ _ _ _ _ _ (search (c .before .before .before .before .before .before .before .before .before .before .before .before .before .before .before .before .before .before .before .before .before .before .before .good .1 .1 .1 .1 .1 .0, needs)) (c .before .before .before .before .before .before .before .before .before .before .before .before .before .before .insert .ensures .2) (c .before .before .before .before .before .before .before .before .before .method-at .ensures) _ (c .before .before .before .before .before .before .before .m .given .1) _ (c .before .before .before .name-of .ensures))
+enum-known-q-2 : tie.Need-enum-known-q-2
+enum-known-q-2 c = search needs
 
 same-length-2 : tie.Need-same-length-2
-same-length-2 c = search needs
+same-length-2 c = wrote-length (c .before .before .emit-member .ensures)
 
 returns-2 : tie.Need-returns-2
-returns-2 c = wrote-by (c .before .before .before .before .before .before .before .tick .ensures ▸ c .unread .ensures) (member-bad _ _ _ _ _ _ _ _ (search (c .before .before .before .before .before .before .before .before .before .before .before .before .before .before .before .before .before .before .before .good .1 .1 .1 .1 .1 .0, needs)) (c .before .before .before .before .before .before .before .before .before .before .insert .ensures .2) (c .before .before .before .before .before .method-at .ensures) _ (c .before .before .before .f .given .1))
+returns-2 c = member-open _ _ _ _ _ _ (c .before .before .before .before .before .before .before .before .before .before .before .before .before .open-type .ensures) (search needs) _ (c .before .before .before .before .before .before .before .before .before .before .q .given .1) (wrote-by (c .before .before .emit-member .ensures) (member-right _ _ _ _ _ _ _ _ _ _ (c .before .before .before .before .before .before .before .t .given .1) (c .before .before .before .before .before .name-of .ensures)))
+
+returns-3 : tie.Need-returns-3
+returns-3 c = member-stopped _ _ _ _ _ _ (c .before .before .before .before .open-type .ensures) (search needs) _ (c .before .q2 .given .1)
 
 pub emit-member-id-spec : {M : Type 1} → statement M
 emit-member-id-spec =
     tie.close
     (tie.spec
-    slice-aggregate-insert
+    slice-aggregate-open-type
     array-share-prefix-none
-    slice-aggregate-insert-2
-    insert-requires
-    tick-requires
-    method-at-requires
-    enum-known-m
-    array-share-prefix-list
-    slice-aggregate-emit-member
-    name-of-requires
-    emit-member-requires
-    enum-known-f
-    unread-requires
+    slice-aggregate-open-type-2
+    open-type-requires
+    enum-known-q
+    enum-known-t
+    refuse-requires
     same-length
     returns
+    name-of-requires
+    array-share-prefix-list
+    slice-aggregate-emit-member
+    emit-member-requires
+    enum-known-q-2
     same-length-2
-    returns-2)
+    returns-2
+    returns-3)

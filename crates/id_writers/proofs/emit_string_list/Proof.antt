@@ -7,7 +7,9 @@ use mathlib.Core.Path.{_≡_, refl}
 use lib.ListN.{length}
 use mathlib.Core.Bool.{false}
 use Rattle.pen.specs.Page.{page}
-use Rattle.id_writers.proofs.Laws.{Rest, rest-all, rest-next, rest-none, rest-idle}
+use mathlib.Core.List.{[]}
+use Rattle.wire.specs.Text.{bytes}
+use Rattle.emit.proofs.Laws.{Rest, rest-all, rest-next, rest-none, rest-idle}
 use Rattle.id_writers.proofs.emit_string_list.Statement.{statement}
 use Rattle.id_writers.proofs.emit_string_list.Tie as tie
 use Rattle.id_writers.proofs.emit_string_list.Reads as reads
@@ -18,13 +20,13 @@ use Rattle.pieces.proofs.entry_at.Reads as entry-at-reads
 use Rattle.emit.proofs.emit_type_index.Reads as emit-type-index-reads
 
 abbrev Inv-loop : tie.InvT-loop
-Inv-loop types ids out₀ call e none q₀ between₀ i₀ t13 out q between i = (i ≤ e .count) × (length out ≡ length out₀) × Rest types ids call between e i (page out q) (page out₀ q₀)
+Inv-loop types ids out₀ call e none q₀ between₀ i₀ t13 out q between i = (i ≤ e .count) × (length out ≡ length out₀) × Rest types ids call [] ids (bytes "\" \"") e false between i (page out q) (page out₀ q₀)
 
 abbrev μ-loop : tie.MeasureT-loop
 μ-loop types ids out₀ call e none q₀ between₀ i₀ t13 out q between i = e .count - i
 
 loop-holds : tie.Need-loop-holds Inv-loop μ-loop
-loop-holds c = (omega arith, refl, rest-all _ _ _ false _ _)
+loop-holds c = (omega arith, refl, rest-all _ _ _ _ _ _ _ false _)
 
 is-idle-requires : tie.Need-is-idle-requires Inv-loop μ-loop
 is-idle-requires c κs = search needs
@@ -33,7 +35,7 @@ same-length : tie.Need-same-length Inv-loop μ-loop
 same-length c = c .before .before .before .before .loop .inv .1
 
 returns : tie.Need-returns Inv-loop μ-loop
-returns c = rest-idle _ _ _ _ _ _ _ _ (c .before .before .before .before .loop .inv .2) (cc)
+returns c = rest-idle _ _ _ _ _ _ _ _ _ _ _ _ (c .before .before .before .before .loop .inv .2) (cc)
 
 slice-aggregate-text-if : tie.Need-slice-aggregate-text-if Inv-loop μ-loop
 slice-aggregate-text-if c = search needs
@@ -60,13 +62,13 @@ loop-less : tie.Need-loop-less Inv-loop μ-loop
 loop-less c = search needs
 
 loop-again : tie.Need-loop-again Inv-loop μ-loop
-loop-again c = (omega arith, cc, rest-next _ _ _ _ _ _ _ _ (c .before .before .before .before .before .before .before .before .before .before .before .before .before .before .before .loop .inv .2) _ _ _ (omega arith) (c .before .before .before .before .before .entry-at .ensures) (c .before .before .before .before .before .before .before .before .text-if .ensures) (c .before .before .emit-type-index .ensures))
+loop-again c = (omega arith, cc, rest-next _ _ _ _ _ _ _ _ _ _ _ _ (c .before .before .before .before .before .before .before .before .before .before .before .before .before .before .before .loop .inv .2) _ _ _ (omega arith) (c .before .before .before .before .before .entry-at .ensures) (c .before .before .before .before .before .before .before .before .text-if .ensures) (c .before .before .emit-type-index .ensures))
 
 same-length-2 : tie.Need-same-length-2 Inv-loop μ-loop
 same-length-2 c = c .before .before .loop .inv .1
 
 returns-2 : tie.Need-returns-2 Inv-loop μ-loop
-returns-2 c = rest-none _ _ _ _ _ _ _ _ (c .before .before .loop .inv .2) (omega arith)
+returns-2 c = rest-none _ _ _ _ _ _ _ _ _ _ _ _ (c .before .before .loop .inv .2) (omega arith)
 
 pub emit-string-list-spec : {M : Type 1} → statement M
 emit-string-list-spec =

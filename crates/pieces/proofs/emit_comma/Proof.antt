@@ -3,6 +3,7 @@
 use borrow.Author.Needs.{needs}
 use Rattle.pen.proofs.Laws.{wrote-by}
 use Rattle.pieces.proofs.Laws.{comma-spaced, comma-close}
+use Rattle.context.specs.Context.{settingsOf}
 use Rattle.pieces.proofs.emit_comma.Statement.{statement}
 use Rattle.pieces.proofs.emit_comma.Tie as tie
 
@@ -19,7 +20,7 @@ same-length : tie.Need-same-length
 same-length c = search needs
 
 returns : tie.Need-returns
-returns c = wrote-by (c .before .before .text-if .ensures) (comma-spaced _ _ _ (c .before .before .before .before .before .before .space-comma .ensures) (c .before .before .before .before .before .if1 .taken))
+returns c = wrote-by (c .before .before .text-if .ensures) (comma-spaced (settingsOf (c .before .before .before .before .before .before .before .before .args .call)) _ (c .before .before .before .before .before .before .before .before .args .between) (c .before .before .before .before .before .before .space-comma .ensures) (c .before .before .before .before .before .if1 .taken))
 
 slice-aggregate-text-if-2 : tie.Need-slice-aggregate-text-if-2
 slice-aggregate-text-if-2 c = search needs
@@ -31,7 +32,7 @@ same-length-2 : tie.Need-same-length-2
 same-length-2 c = search needs
 
 returns-2 : tie.Need-returns-2
-returns-2 c = wrote-by (c .before .before .text-if2 .ensures) (comma-close _ _ _ (c .before .before .before .before .before .before .space-comma .ensures) (c .before .before .before .before .before .if1 .left))
+returns-2 c = wrote-by (c .before .before .text-if2 .ensures) (comma-close (settingsOf (c .before .before .before .before .before .before .before .before .args .call)) _ (c .before .before .before .before .before .before .before .before .args .between) (c .before .before .before .before .before .before .space-comma .ensures) (c .before .before .before .before .before .if1 .left))
 
 pub emit-comma-spec : {M : Type 1} → statement M
 emit-comma-spec =

@@ -5,16 +5,14 @@ use borrow.Fn.PlainCycle.{Measures, is, falls, and}
 use Rattle.id_writers.proofs.emit_id.Reads as emit-id
 use Rattle.id_writers.proofs.emit_id.Kinds as emit-id-kinds
 use Rattle.codeview.proofs.ids.id_at.Reads as id-at-reads
-use Rattle.context.proofs.seen.insert.Reads as insert-reads
+use Rattle.context.proofs.seen.open_type.Reads as open-type-reads
 use Rattle.id_writers.proofs.deeper.Reads as deeper-reads
 use Rattle.id_writers.proofs.emit_id_end.Reads as emit-id-end-reads
 use Rattle.id_writers.proofs.emit_other_id.Reads as emit-other-id-reads
 use Rattle.id_writers.proofs.emit_result.Reads as emit-result-reads
-use Rattle.id_writers.proofs.procedure_at.Reads as procedure-at-reads
 use Rattle.pen.proofs.is_idle.Reads as is-idle-reads
-use Rattle.pen.proofs.tick.Reads as tick-reads
+use Rattle.pen.proofs.refuse.Reads as refuse-reads
 use Rattle.pen.proofs.too_long.Reads as too-long-reads
-use Rattle.pen.proofs.unread.Reads as unread-reads
 use Rattle.writers.proofs.marks.mark.Reads as mark-reads
 
 abbrev pub μ-emit-id : Measures 3 emit-id-kinds.ps ℕ

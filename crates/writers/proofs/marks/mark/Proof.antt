@@ -1,64 +1,65 @@
 -- Each return is a case of `markTrace`.
 -- Assumes nothing.
-use Rattle.pen.proofs.Laws.{wrote-by}
-use Rattle.writers.proofs.Laws.{mark-missing, mark-unimplemented, mark-refused}
+use package.types.Run.{miss}
+use Rattle.pen.proofs.Laws.{not-number}
+use Rattle.writers.specs.Writers.{markTrace}
+use Rattle.writers.proofs.Laws.{noMark}
 use borrow.Author.Needs.{needs}
 use Rattle.writers.proofs.marks.mark.Statement.{statement}
 use Rattle.writers.proofs.marks.mark.Tie as tie
 
-number-requires : tie.Need-number-requires
-number-requires c κs = search needs
-
-detail-requires : tie.Need-detail-requires
-detail-requires c κs = search needs
+enum-known-f : tie.Need-enum-known-f
+enum-known-f c = search needs
 
 missing-requires : tie.Need-missing-requires
 missing-requires c κs = search needs
+
+enum-known-f-2 : tie.Need-enum-known-f-2
+enum-known-f-2 c = search needs
+
+cast-unimplemented : tie.Need-cast-unimplemented
+cast-unimplemented c = search needs
+
+unimplemented-requires : tie.Need-unimplemented-requires
+unimplemented-requires c κs = search needs
+
+refuse-requires : tie.Need-refuse-requires
+refuse-requires c κs = search needs
 
 same-length : tie.Need-same-length
 same-length c = search needs
 
 returns : tie.Need-returns
-returns c = wrote-by (c .before .before .missing .ensures) (mark-missing _ _ _ (c .before .before .before .before .before .before .number .ensures) (c .before .before .before .detail .ensures) (c .before .before .before .before .before .if1 .taken))
-
-number-requires-2 : tie.Need-number-requires-2
-number-requires-2 c κs = search needs
-
-detail-requires-2 : tie.Need-detail-requires-2
-detail-requires-2 c κs = search needs
-
-unimplemented-requires : tie.Need-unimplemented-requires
-unimplemented-requires c κs = search needs
+unfolding markTrace
+returns c = rw (c .before .before .before .before .before .f .given .1) (c .before .before .missing .ensures)
 
 same-length-2 : tie.Need-same-length-2
 same-length-2 c = search needs
 
 returns-2 : tie.Need-returns-2
-returns-2 c = wrote-by (c .before .before .unimplemented .ensures) (mark-unimplemented _ _ _ (c .before .before .before .before .before .before .number2 .ensures) (c .before .before .before .detail2 .ensures) (search needs) (c .before .before .before .before .before .if2 .taken))
-
-refuse-requires : tie.Need-refuse-requires
-refuse-requires c κs = search needs
+unfolding markTrace
+returns-2 c = rw (c .before .before .before .before .before .f2 .given .1) (c .before .before .unimplemented .ensures)
 
 same-length-3 : tie.Need-same-length-3
 same-length-3 c = search needs
 
 returns-3 : tie.Need-returns-3
-returns-3 c = wrote-by (c .refuse .ensures) (mark-refused _ _ (c .before .before .before .number2 .ensures) (search needs) (c .before .before .if2 .left))
+unfolding markTrace
+returns-3 c = rw (not-number 7 noMark _ (miss noMark 7 tt) (c .before .before .match .keys3), not-number 6 noMark _ (miss noMark 6 tt) (c .before .before .match .keys3)) (c .refuse .ensures)
 
 pub mark-spec : {M : Type 1} → statement M
 mark-spec =
     tie.close
     (tie.spec
-    number-requires
-    detail-requires
+    enum-known-f
     missing-requires
+    enum-known-f-2
+    cast-unimplemented
+    unimplemented-requires
+    refuse-requires
     same-length
     returns
-    number-requires-2
-    detail-requires-2
-    unimplemented-requires
     same-length-2
     returns-2
-    refuse-requires
     same-length-3
     returns-3)

@@ -1,0 +1,72 @@
+-- What comes of opening an index: the list, and the answer (document 01, "Writing rules": opening).
+use Prim.Native.Nat.{ℕ, _+_, _*_, _<_}
+use mathlib.Core.Path.{_≡_}
+use mathlib.Core.List.{List, _∷_, _++_}
+use lib.ListN.{length, drop}
+use lib.Dec.{leb}
+use Rattle.wire.specs.Field.{pick}
+use Rattle.streams.specs.declared.refusal.Refusal.the-variants.{CircularTypeDefinition, TooManyOpen}
+use Rattle.streams.specs.declared.stream.Stream.{Stream}
+use Rattle.codeview.specs.Read.{readType}
+use Rattle.codeview.specs.declared.record.TypeRead.{TypeRead}
+use Rattle.codeview.specs.declared.record.TypeRead.the-variants as typeRead
+use Rattle.pen.specs.Page.{idle, gone, counted, unreadPen}
+use Rattle.pen.specs.declared.Pen.{Pen}
+use Rattle.context.specs.Context.{keysOf, hasIndex}
+use Rattle.context.specs.declared.seen.Way.{Way}
+use Rattle.context.specs.declared.seen.Way.the-variants as way
+use Rattle.context.specs.declared.seen.Opening.{Opening}
+use Rattle.context.specs.declared.seen.Opening.the-variants as opening
+use Rattle.context.specs.declared.seen.TypeOpening.{TypeOpening}
+use Rattle.context.specs.declared.seen.TypeOpening.the-variants as typeOpening
+
+-- The numbers by which the rules tell the ways apart.
+abbrev pub wayOf : Way → ℕ
+wayOf way.Function = 0
+wayOf way.Itself = 1
+wayOf way.Target = 2
+wayOf way.TargetOfModifier = 3
+wayOf way.Modified = 4
+wayOf way.List = 5
+
+-- An open index with its way, packed in one number.
+abbrev pub noted : Way → ℕ → ℕ
+noted w i = wayOf w * 4_294_967_296 + i
+
+-- The list at exit with the answer.
+pub record Leaves (A : Type 0) : Type 0 where
+  pub list : List ℕ
+  pub answer : A
+
+abbrev pub leaves : {A : Type 0} → List ℕ → A → Leaves A
+leaves l r = record { list = l; answer = r }
+
+-- A stopped pen opens nothing; "12 is tested before 13"; an index that is opened comes before those that are open, over what the list held, and is counted.
+unfoldable pub opensTo : Pen → List ℕ → List ℕ → Way → ℕ → Leaves Opening
+opensTo p list seen w i =
+    pick (idle (p .stop)) (leaves list (opening.Stopped p))
+    (pick (hasIndex i (keysOf seen)) (leaves list (opening.Stopped (gone (p .limit) (CircularTypeDefinition i))))
+    (pick (leb (length list) (length seen)) (leaves list (opening.Stopped (gone (p .limit) (TooManyOpen i))))
+    (leaves ((noted w i ∷ seen) ++ drop (length seen + 1) list) (opening.Open (counted p) (length seen + 1)))))
+
+-- What `open_index` leaves; the index is a u32.
+pub record Opens (p : Pen) (list seen : List ℕ) (w : Way) (i : ℕ) (l : List ℕ) (r : Opening) : Type 0 where
+  pub is : leaves l r ≡ opensTo p list seen w i
+  pub small : i < 4_294_967_296
+
+-- "Opened, then read": what follows from the opening and from what the index stands for.
+unfoldable pub readTo : Pen → ℕ → TypeRead → TypeOpening
+readTo q n (typeRead.Good t) = typeOpening.Open q n t
+readTo q n (typeRead.Refused f) = typeOpening.Stopped (unreadPen q f)
+
+unfoldable pub openedTo : TypeRead → Opening → TypeOpening
+openedTo r (opening.Open q n) = readTo q n r
+openedTo r (opening.Stopped q) = typeOpening.Stopped q
+
+unfoldable pub opensTypeTo : TypeRead → Leaves Opening → Leaves TypeOpening
+opensTypeTo r x = leaves (x .list) (openedTo r (x .answer))
+
+-- What `open_type` leaves.
+pub record OpensType (types : List ℕ) (t : Stream) (p : Pen) (list seen : List ℕ) (w : Way) (i : ℕ) (l : List ℕ) (r : TypeOpening) : Type 0 where
+  pub is : leaves l r ≡ opensTypeTo (readType types t i) (opensTo p list seen w i)
+  pub small : i < 4_294_967_296

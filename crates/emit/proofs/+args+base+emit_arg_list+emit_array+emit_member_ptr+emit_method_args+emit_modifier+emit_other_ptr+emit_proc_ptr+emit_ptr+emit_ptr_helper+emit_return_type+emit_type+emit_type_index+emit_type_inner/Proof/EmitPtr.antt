@@ -1,0 +1,112 @@
+-- `emit-ptr` meets its contract, below the measure t. Its needs are in the order of the code.
+use Prim.Native.Nat.{ℕ}
+use borrow.Author.Needs.{needs}
+use native.Mathlib.Omega.{arith}
+use Rattle.pen.proofs.Laws.{wrote-by, wrote-length}
+use Rattle.context.proofs.Opening.{in-length, type-in}
+use Rattle.emit.proofs.Laws.{aimed-stopped, aimed-open, aimed-pointer, aimed-modifier, aimed-twice, aimed-plain}
+use Rattle.emit.proofs.Laws.{in-lent, in-fits}
+use Rattle.emit.proofs.emit_ptr.Reads as emit-ptr
+use Rattle.emit.proofs.emit_ptr_helper.Reads as emit-ptr-helper
+use Rattle.context.proofs.levels.over_pointee.Reads as over-pointee-reads
+use Rattle.context.proofs.seen.open_type.Reads as open-type-reads
+use Rattle.emit.proofs.way_to.Reads as way-to-reads
+use Rattle.emit.proofs.aim.Reads as aim-reads
+use Rattle.emit.proofs.+args+base+emit_arg_list+emit_array+emit_member_ptr+emit_method_args+emit_modifier+emit_other_ptr+emit_proc_ptr+emit_ptr+emit_ptr_helper+emit_return_type+emit_type+emit_type_index+emit_type_inner.Lts-emit_ptr as lts
+use Rattle.emit.proofs.+args+base+emit_arg_list+emit_array+emit_member_ptr+emit_method_args+emit_modifier+emit_other_ptr+emit_proc_ptr+emit_ptr+emit_ptr_helper+emit_return_type+emit_type+emit_type_index+emit_type_inner.Proof.Common.{emit-ptr-at, emit-ptr-below, emit-ptr-helper-below}
+
+abbrev claims : ℕ → lts.Claims
+claims t = (way-to-reads.Asked, way-to-reads.Learnt, open-type-reads.Asked, open-type-reads.Learnt, aim-reads.Asked, aim-reads.Learnt, emit-ptr-below t, emit-ptr.Post, emit-ptr-helper-below t, emit-ptr-helper.Post, over-pointee-reads.Asked, over-pointee-reads.Learnt)
+
+way-to-requires : (t : ℕ) → lts.Need-way-to-requires (claims t) (emit-ptr-at t) emit-ptr.Post
+way-to-requires t c κs = search (c .before .before .before .before .before .pre, needs)
+
+slice-aggregate-open-type : (t : ℕ) → lts.Need-slice-aggregate-open-type (claims t) (emit-ptr-at t) emit-ptr.Post
+slice-aggregate-open-type t c = search needs
+
+open-type-requires : (t : ℕ) → lts.Need-open-type-requires (claims t) (emit-ptr-at t) emit-ptr.Post
+open-type-requires t c κs = search (c .before .before .before .before .before .before .before .pre, needs)
+
+enum-known-q : (t : ℕ) → lts.Need-enum-known-q (claims t) (emit-ptr-at t) emit-ptr.Post
+enum-known-q t c = search needs
+
+enum-known-t : (t : ℕ) → lts.Need-enum-known-t (claims t) (emit-ptr-at t) emit-ptr.Post
+enum-known-t t c = search needs
+
+aim-requires : (t : ℕ) → lts.Need-aim-requires (claims t) (emit-ptr-at t) emit-ptr.Post
+aim-requires t c κs = (omega (arith, type-in (c .before .before .before .before .before .before .before .before .open-type .ensures) (search needs) (c .before .before .before .before .before .q .given .1) .0 .few, c .before .before .before .before .before .before .before .before .before .before .before .before .before .before .before .before .pre), omega (arith, c .before .before .before .before .before .before .before .before .before .before .before .before .before .before .before .before .pre))
+
+array-share-prefix-list : (t : ℕ) → lts.Need-array-share-prefix-list (claims t) (emit-ptr-at t) emit-ptr.Post
+array-share-prefix-list t c = in-fits (type-in (c .before .before .before .before .before .before .before .before .before .before .open-type .ensures) (search needs) (c .before .before .before .before .before .before .before .q .given .1) .0)
+
+slice-aggregate-emit-ptr : (t : ℕ) → lts.Need-slice-aggregate-emit-ptr (claims t) (emit-ptr-at t) emit-ptr.Post
+slice-aggregate-emit-ptr t c = in-lent (type-in (c .before .before .before .before .before .before .before .before .before .before .before .open-type .ensures) (search needs) (c .before .before .before .before .before .before .before .before .q .given .1) .0)
+
+emit-ptr-requires : (t : ℕ) → lts.Need-emit-ptr-requires (claims t) (emit-ptr-at t) emit-ptr.Post
+emit-ptr-requires t c κs = (omega (arith, in-length (type-in (c .before .before .before .before .before .before .before .before .before .before .before .open-type .ensures) (search needs) (c .before .before .before .before .before .before .before .before .q .given .1) .0), type-in (c .before .before .before .before .before .before .before .before .before .before .before .open-type .ensures) (search needs) (c .before .before .before .before .before .before .before .before .q .given .1) .0 .few, c .before .before .before .before .before .before .before .before .before .before .before .before .before .before .before .before .before .before .before .pre), (omega (arith, in-length (type-in (c .before .before .before .before .before .before .before .before .before .before .before .open-type .ensures) (search needs) (c .before .before .before .before .before .before .before .before .q .given .1) .0), type-in (c .before .before .before .before .before .before .before .before .before .before .before .open-type .ensures) (search needs) (c .before .before .before .before .before .before .before .before .q .given .1) .0 .few, c .before .before .aim .ensures .0, c .before .before .before .before .before .before .before .before .before .before .before .before .before .before .before .before .before .before .before .pre), omega (arith, c .before .before .aim .ensures .0, c .before .before .before .before .before .before .before .before .before .before .before .before .before .before .before .before .before .before .before .pre)))
+
+enum-known-t-2 : (t : ℕ) → lts.Need-enum-known-t-2 (claims t) (emit-ptr-at t) emit-ptr.Post
+enum-known-t-2 t c = search needs
+
+array-share-prefix-list-2 : (t : ℕ) → lts.Need-array-share-prefix-list-2 (claims t) (emit-ptr-at t) emit-ptr.Post
+array-share-prefix-list-2 t c = in-fits (type-in (c .before .before .before .before .before .before .before .before .before .open-type .ensures) (search needs) (c .before .before .before .before .before .before .q .given .1) .0)
+
+slice-aggregate-emit-ptr-helper : (t : ℕ) → lts.Need-slice-aggregate-emit-ptr-helper (claims t) (emit-ptr-at t) emit-ptr.Post
+slice-aggregate-emit-ptr-helper t c = in-lent (type-in (c .before .before .before .before .before .before .before .before .before .before .open-type .ensures) (search needs) (c .before .before .before .before .before .before .before .q .given .1) .0)
+
+emit-ptr-helper-requires : (t : ℕ) → lts.Need-emit-ptr-helper-requires (claims t) (emit-ptr-at t) emit-ptr.Post
+emit-ptr-helper-requires t c κs = (omega (arith, in-length (type-in (c .before .before .before .before .before .before .before .before .before .before .open-type .ensures) (search needs) (c .before .before .before .before .before .before .before .q .given .1) .0), type-in (c .before .before .before .before .before .before .before .before .before .before .open-type .ensures) (search needs) (c .before .before .before .before .before .before .before .q .given .1) .0 .few, c .before .before .before .before .before .before .before .before .before .before .before .before .before .before .before .before .before .before .pre), omega (arith, in-length (type-in (c .before .before .before .before .before .before .before .before .before .before .open-type .ensures) (search needs) (c .before .before .before .before .before .before .before .q .given .1) .0)))
+
+returns : (t : ℕ) → lts.Need-returns (claims t) (emit-ptr-at t) emit-ptr.Post
+returns t c = aimed-open _ _ _ _ (c .before .before .before .before .before .before .before .before .before .before .before .before .before .before .before .before .before .before .before .before .before .args .modified) _ _ _ (c .before .before .before .before .before .before .before .before .before .before .before .before .before .before .before .way-to .ensures) (c .before .before .before .before .before .before .before .before .before .before .before .before .before .open-type .ensures) (search needs) (c .before .before .before .before .before .before .before .before .before .before .q .given .1) (wrote-by (c .before .before .emit-ptr-helper .ensures) (aimed-twice _ _ _ _ _ _ (c .before .before .before .before .before .before .before .before .before .before .before .before .before .before .before .before .before .before .before .before .before .args .modified) _ (c .before .before .before .before .before .if1 .taken) (c .before .before .before .before .before .before .before .t2 .given .1)))
+
+over-pointee-requires : (t : ℕ) → lts.Need-over-pointee-requires (claims t) (emit-ptr-at t) emit-ptr.Post
+over-pointee-requires t c κs = search (c .before .if1, c .before .before .before .before .match2, c .before .before .before .before .before .before .before .match, c .before .before .before .before .before .before .before .before .before .before .before .before .before .before .before .before .before .pre, c .before .before .before .before .before .before .before .before .before .open-type .ensures, needs)
+
+array-share-prefix-list-3 : (t : ℕ) → lts.Need-array-share-prefix-list-3 (claims t) (emit-ptr-at t) emit-ptr.Post
+array-share-prefix-list-3 t c = in-fits (type-in (c .before .before .before .before .before .before .before .before .before .before .before .open-type .ensures) (search needs) (c .before .before .before .before .before .before .before .before .q .given .1) .0)
+
+slice-aggregate-emit-ptr-2 : (t : ℕ) → lts.Need-slice-aggregate-emit-ptr-2 (claims t) (emit-ptr-at t) emit-ptr.Post
+slice-aggregate-emit-ptr-2 t c = in-lent (type-in (c .before .before .before .before .before .before .before .before .before .before .before .before .open-type .ensures) (search needs) (c .before .before .before .before .before .before .before .before .before .q .given .1) .0)
+
+emit-ptr-requires-2 : (t : ℕ) → lts.Need-emit-ptr-requires-2 (claims t) (emit-ptr-at t) emit-ptr.Post
+emit-ptr-requires-2 t c κs = (omega (arith, in-length (type-in (c .before .before .before .before .before .before .before .before .before .before .before .before .open-type .ensures) (search needs) (c .before .before .before .before .before .before .before .before .before .q .given .1) .0), type-in (c .before .before .before .before .before .before .before .before .before .before .before .before .open-type .ensures) (search needs) (c .before .before .before .before .before .before .before .before .before .q .given .1) .0 .few, c .before .before .before .before .before .before .before .before .before .before .before .before .before .before .before .before .before .before .before .before .pre), (omega (arith, in-length (type-in (c .before .before .before .before .before .before .before .before .before .before .before .before .open-type .ensures) (search needs) (c .before .before .before .before .before .before .before .before .before .q .given .1) .0), type-in (c .before .before .before .before .before .before .before .before .before .before .before .before .open-type .ensures) (search needs) (c .before .before .before .before .before .before .before .before .before .q .given .1) .0 .few, c .before .before .over-pointee .ensures .left, c .before .before .before .before .before .before .before .before .before .before .before .before .before .before .before .before .before .before .before .before .pre), omega (arith, c .before .before .over-pointee .ensures .left, c .before .before .before .before .before .before .before .before .before .before .before .before .before .before .before .before .before .before .before .before .pre)))
+
+array-share-prefix-list-4 : (t : ℕ) → lts.Need-array-share-prefix-list-4 (claims t) (emit-ptr-at t) emit-ptr.Post
+array-share-prefix-list-4 t c = in-fits (type-in (c .before .before .before .before .before .before .open-type .ensures) (search needs) (c .before .before .before .q .given .1) .0)
+
+slice-aggregate-emit-ptr-helper-2 : (t : ℕ) → lts.Need-slice-aggregate-emit-ptr-helper-2 (claims t) (emit-ptr-at t) emit-ptr.Post
+slice-aggregate-emit-ptr-helper-2 t c = in-lent (type-in (c .before .before .before .before .before .before .before .open-type .ensures) (search needs) (c .before .before .before .before .q .given .1) .0)
+
+emit-ptr-helper-requires-2 : (t : ℕ) → lts.Need-emit-ptr-helper-requires-2 (claims t) (emit-ptr-at t) emit-ptr.Post
+emit-ptr-helper-requires-2 t c κs = (omega (arith, in-length (type-in (c .before .before .before .before .before .before .before .open-type .ensures) (search needs) (c .before .before .before .before .q .given .1) .0), type-in (c .before .before .before .before .before .before .before .open-type .ensures) (search needs) (c .before .before .before .before .q .given .1) .0 .few, c .before .before .before .before .before .before .before .before .before .before .before .before .before .before .before .pre), omega (arith, in-length (type-in (c .before .before .before .before .before .before .before .open-type .ensures) (search needs) (c .before .before .before .before .q .given .1) .0)))
+
+enum-known-q-2 : (t : ℕ) → lts.Need-enum-known-q-2 (claims t) (emit-ptr-at t) emit-ptr.Post
+enum-known-q-2 t c = search needs
+
+returns-2 : (t : ℕ) → lts.Need-returns-2 (claims t) (emit-ptr-at t) emit-ptr.Post
+returns-2 t c = aimed-open _ _ _ _ (c .before .before .before .before .before .before .before .before .before .before .before .before .before .before .before .before .before .before .before .before .before .before .args .modified) _ _ _ (c .before .before .before .before .before .before .before .before .before .before .before .before .before .before .before .before .way-to .ensures) (c .before .before .before .before .before .before .before .before .before .before .before .before .before .before .open-type .ensures) (search needs) (c .before .before .before .before .before .before .before .before .before .before .before .q .given .1) (wrote-by (c .before .before .emit-ptr .ensures) (aimed-pointer _ _ _ _ _ _ (c .before .before .before .before .before .before .before .before .before .before .before .before .before .before .before .before .before .before .before .before .before .before .args .modified) _ _ (c .before .before .before .before .before .before .before .before .t .given .1) (c .before .before .before .before .before .aim .ensures .1)))
+
+returns-3 : (t : ℕ) → lts.Need-returns-3 (claims t) (emit-ptr-at t) emit-ptr.Post
+returns-3 t c = aimed-open _ _ _ _ (c .before .before .before .before .before .before .before .before .before .before .before .before .before .before .before .before .before .before .before .before .before .before .before .args .modified) _ _ _ (c .before .before .before .before .before .before .before .before .before .before .before .before .before .before .before .before .before .way-to .ensures) (c .before .before .before .before .before .before .before .before .before .before .before .before .before .before .before .open-type .ensures) (search needs) (c .before .before .before .before .before .before .before .before .before .before .before .before .q .given .1) (wrote-by (c .before .before .emit-ptr2 .ensures) (aimed-modifier _ _ _ _ _ _ _ _ _ (c .before .before .before .before .before .before .before .if1 .left) (c .before .before .before .before .before .before .before .before .before .t2 .given .1) (c .before .before .before .before .before .over-pointee .ensures .levels)))
+
+returns-4 : (t : ℕ) → lts.Need-returns-4 (claims t) (emit-ptr-at t) emit-ptr.Post
+returns-4 t c = aimed-open _ _ _ _ (c .before .before .before .before .before .before .before .before .before .before .before .before .before .before .before .before .before .before .args .modified) _ _ _ (c .before .before .before .before .before .before .before .before .before .before .before .before .way-to .ensures) (c .before .before .before .before .before .before .before .before .before .before .open-type .ensures) (search needs) (c .before .before .before .before .before .before .before .q .given .1) (wrote-by (c .before .before .emit-ptr-helper2 .ensures) (aimed-plain _ _ _ _ _ _ (c .before .before .before .before .before .before .before .before .before .before .before .before .before .before .before .before .before .before .args .modified) (c .before .before .before .before .before .match2 .keys3)))
+
+returns-5 : (t : ℕ) → lts.Need-returns-5 (claims t) (emit-ptr-at t) emit-ptr.Post
+returns-5 t c = aimed-stopped _ _ _ _ (c .before .before .before .before .before .before .before .before .before .before .before .before .args .modified) _ _ _ (c .before .before .before .before .before .before .way-to .ensures) (c .before .before .before .before .open-type .ensures) (search needs) (c .before .q2 .given .1)
+
+same-length : (t : ℕ) → lts.Need-same-length (claims t) (emit-ptr-at t) emit-ptr.Post
+same-length t c = wrote-length (returns t c)
+
+same-length-2 : (t : ℕ) → lts.Need-same-length-2 (claims t) (emit-ptr-at t) emit-ptr.Post
+same-length-2 t c = wrote-length (returns-2 t c)
+
+same-length-3 : (t : ℕ) → lts.Need-same-length-3 (claims t) (emit-ptr-at t) emit-ptr.Post
+same-length-3 t c = wrote-length (returns-3 t c)
+
+same-length-4 : (t : ℕ) → lts.Need-same-length-4 (claims t) (emit-ptr-at t) emit-ptr.Post
+same-length-4 t c = wrote-length (returns-4 t c)
+
+pub closed : {M : Type 1} (t : ℕ) → lts.Closed (claims t) (emit-ptr-at t) emit-ptr.Post M
+closed t = lts.spec (claims t) (emit-ptr-at t) emit-ptr.Post (way-to-requires t) (slice-aggregate-open-type t) (open-type-requires t) (enum-known-q t) (enum-known-t t) (aim-requires t) (array-share-prefix-list t) (slice-aggregate-emit-ptr t) (emit-ptr-requires t) (enum-known-t-2 t) (array-share-prefix-list-2 t) (slice-aggregate-emit-ptr-helper t) (emit-ptr-helper-requires t) (same-length t) (returns t) (over-pointee-requires t) (array-share-prefix-list-3 t) (slice-aggregate-emit-ptr-2 t) (emit-ptr-requires-2 t) (array-share-prefix-list-4 t) (slice-aggregate-emit-ptr-helper-2 t) (emit-ptr-helper-requires-2 t) (enum-known-q-2 t) (same-length-2 t) (returns-2 t) (same-length-3 t) (returns-3 t) (same-length-4 t) (returns-4 t) (returns-5 t)
