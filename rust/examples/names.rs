@@ -8,7 +8,7 @@ use std::{env, fs};
 use yokberd::{IdIndex, TypeFormatter, TypeFormatterFlags};
 
 fn main() -> Result<(), Box<dyn Error>> {
-    let shipped = concat!(env!("CARGO_MANIFEST_DIR"), "/../crates/vectors/data/overloads");
+    let shipped = concat!(env!("CARGO_MANIFEST_DIR"), "/../crates/test_vectors/data/overloads");
     let mut files = env::args().skip(1);
     let types = fs::read(files.next().unwrap_or(format!("{shipped}-types.bin")))?;
     let ids = fs::read(files.next().unwrap_or(format!("{shipped}-ids.bin")))?;

@@ -28,8 +28,8 @@ const PAGE: usize = 1 << 16;
 /// ```
 /// use yokberd::{TypeFormatter, TypeFormatterFlags, TypeIndex};
 ///
-/// let types = std::fs::read("../crates/vectors/data/overloads-types.bin")?;
-/// let ids = std::fs::read("../crates/vectors/data/overloads-ids.bin")?;
+/// let types = std::fs::read("../crates/test_vectors/data/overloads-types.bin")?;
+/// let ids = std::fs::read("../crates/test_vectors/data/overloads-ids.bin")?;
 /// let formatter = TypeFormatter::new_from_parts(&types, &ids, 8, TypeFormatterFlags::default());
 /// assert_eq!(formatter.format_id(0, 0x1001.into())?, "loom::advance(float)");
 /// assert_eq!(formatter.format_function("advance", 0, TypeIndex(0x1001))?, "advance(float)");

@@ -8,8 +8,8 @@
 //! ```
 //! use yokberd::{IdIndex, TypeFormatter, TypeFormatterFlags};
 //!
-//! let types = std::fs::read("../crates/vectors/data/overloads-types.bin")?;
-//! let ids = std::fs::read("../crates/vectors/data/overloads-ids.bin")?;
+//! let types = std::fs::read("../crates/test_vectors/data/overloads-types.bin")?;
+//! let ids = std::fs::read("../crates/test_vectors/data/overloads-ids.bin")?;
 //! let formatter = TypeFormatter::new_from_parts(&types, &ids, 8, TypeFormatterFlags::default());
 //! match formatter.format_id(0, IdIndex(0x1002)) {
 //!     Ok(text) => assert_eq!(text, "loom::advance(int)"),

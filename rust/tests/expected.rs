@@ -1,5 +1,5 @@
 //! Answers held to lines that this crate and the library did not make: the cases of document 01, the lines of its reading in Python over real streams
-//! (crates/vectors), and the given sheets (crates/sheets).
+//! (crates/test_vectors), and the given sheets (crates/test_sheets).
 mod common;
 
 use common::{folder, real_streams, small_stream};
@@ -147,7 +147,7 @@ fn endless_texts() {
     assert_eq!(plain.format_type(0, TypeIndex(0x103b)), Err(Error::NoRoom));
 }
 
-// A line as `vectors` prints it behind the index: refusal, detail and text.
+// A line as `test_vectors` prints it behind the index: refusal, detail and text.
 fn shown(answer: Result<Vec<u8>, Error>) -> String {
     match answer {
         Ok(text) => format!("0 0x0 {}", String::from_utf8(text).unwrap()),
@@ -157,7 +157,7 @@ fn shown(answer: Result<Vec<u8>, Error>) -> String {
 
 #[test]
 fn real_streams_by_the_reading_in_python() {
-    let lines = fs::read_to_string(folder("crates/vectors/stdout")).unwrap();
+    let lines = fs::read_to_string(folder("crates/test_vectors/stdout")).unwrap();
     let all = real_streams();
     let mut streams = &all[0];
     let (mut section, mut flags, mut count) = ("", 0, 0);
@@ -191,13 +191,13 @@ fn real_streams_by_the_reading_in_python() {
 // The given sheets, in buffers from the least that takes any line.
 #[test]
 fn given_sheets() {
-    let data = folder("crates/sheets/data");
-    let cases = fs::read_to_string(folder("crates/sheets/args")).unwrap();
-    let expected = fs::read(folder("crates/sheets/stdout")).unwrap();
+    let data = folder("crates/test_sheets/data");
+    let cases = fs::read_to_string(folder("crates/test_sheets/args")).unwrap();
+    let expected = fs::read(folder("crates/test_sheets/stdout")).unwrap();
     for room in [4150, 4151, 9000, 1 << 16] {
         let mut printed = Vec::new();
         for case in cases.lines() {
-            // `names` and `sheets` read so many bytes of a file
+            // `names` and `test_sheets` read so many bytes of a file
             let read = |kind: &str| {
                 let mut bytes = fs::read(data.join(format!("{case}-{kind}.bin"))).unwrap();
                 bytes.truncate(16_384);

@@ -300,12 +300,12 @@ fn record_count(stream: &[u8]) -> u32 {
     word(12) - word(8)
 }
 
-/// The real streams of `vectors`, made by clang and lld.
+/// The real streams of `test_vectors`, made by clang and lld.
 pub fn real_streams() -> Vec<Streams> {
     ["overloads", "methods", "fnptrs", "arrays", "merged"]
         .into_iter()
         .map(|name| {
-            let read = |kind: &str| fs::read(folder("crates/vectors/data").join(format!("{name}-{kind}.bin"))).unwrap();
+            let read = |kind: &str| fs::read(folder("crates/test_vectors/data").join(format!("{name}-{kind}.bin"))).unwrap();
             let (types, ids) = (read("types"), read("ids"));
             let (type_count, id_count) = (record_count(&types), record_count(&ids));
             Streams { name: name.to_string(), types, ids, type_count, id_count }
