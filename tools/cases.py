@@ -1,5 +1,5 @@
 #!/usr/bin/env python3
-"""cases.py CRATE: writes the files data/*.bin and args of the program `cases` into its folder CRATE and prints the lines that it must print.
+"""cases.py CRATE: writes the files data/*.bin and args of the program `test_cases` into its folder CRATE and prints the lines that it must print.
 
 Each case has its records and, beside them, its answers, which were worked out by hand from document 01. The script also asks tools/reading.py,
 a reading of the document in Python, and stops where that answers otherwise."""
@@ -57,7 +57,7 @@ def ask(types, ids, command, index, flags, size, room, name):
 
 
 def shown(text):
-    """A text as `cases` prints it: a long one by its length, the sum of its running sums and its start."""
+    """A text as `test_cases` prints it: a long one by its length, the sum of its running sums and its start."""
     if len(text) <= 200:
         return text
     total = sums = 0

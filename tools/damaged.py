@@ -1,5 +1,5 @@
 #!/usr/bin/env python3
-"""damaged.py DIR: writes small damaged streams into DIR and prints the lines that `records` must print for them.
+"""damaged.py DIR: writes small damaged streams into DIR and prints the lines that `dump_records` must print for them.
 
 Each case has its bytes and, beside them, its line, which was worked out by hand from document 01 and cvinfo.h. No line comes from a program."""
 import os

@@ -1,5 +1,5 @@
 #!/usr/bin/env python3
-"""llvm-table.py types|ids LLVM-DUMP: the table that `records` should print for a stream, from what llvm-pdbutil says of it.
+"""llvm-table.py types|ids LLVM-DUMP: the table that `dump_records` should print for a stream, from what llvm-pdbutil says of it.
 
 LLVM-DUMP is the output of `llvm-pdbutil dump -types -ids`. Nothing of this repository is used: kinds are cvinfo.h's numbers, indexes and names are
 copied from LLVM's lines. Three things LLVM does not print and are filled in from cvinfo.h and from what clang writes: a pointer of kind ptr64 has

@@ -3,7 +3,7 @@
 
     reading.py sheet DIR          prints the lines of `names` for types.bin, ids.bin and sheet.bin in DIR
     reading.py sheets DIR...      compares those lines with DIR/expected.txt, for each DIR
-    reading.py vectors CRATE      prints what `vectors` must print, from the files args and data/*.bin of its folder CRATE
+    reading.py vectors CRATE      prints what `test_vectors` must print, from the files args and data/*.bin of its folder CRATE
     reading.py ids TYPES IDS      prints each id of a pair of streams with its text under flags 0
 
 It was made from the document and from the texts of the Rust module that the document names; where the document leaves a choice, it takes that of
@@ -701,7 +701,7 @@ def run_sheet(folder):
 
 
 def vectors(folder, name):
-    """The output of `vectors` for one pair of streams."""
+    """The output of `test_vectors` for one pair of streams."""
     types, ids = load(folder, "data", name + "-types.bin"), load(folder, "data", name + "-ids.bin")
     all_types, all_ids = Stream(types, 0), Stream(ids, 1)
     out = [b"== %s\n" % name.encode()]

@@ -1,5 +1,5 @@
 #!/usr/bin/env python3
-"""Makes the data files of the programs `names` and `sheets`.
+"""Makes the data files of the programs `names` and `test_sheets`.
 
     sheets.py names CRATE            writes data/types.bin, ids.bin, sheet.bin and stdout of `names` into its folder CRATE, and prints the table of its README
     sheets.py sheets CRATE DIR...    copies the three files of each DIR into CRATE/data, and writes args and, from each DIR/expected.txt, stdout

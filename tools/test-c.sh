@@ -1,6 +1,6 @@
 #!/bin/sh
 # Compiles c/example.c against c/yokberd.h and the library, runs it on a shipped pair of streams, and compares what it prints: the ids with the lines of
-# crates/vectors/stdout, which a reading of document 01 in Python made, the rest with lines worked out by hand. Then once more under a sanitizer, and, where
+# crates/test_vectors/stdout, which a reading of document 01 in Python made, the rest with lines worked out by hand. Then once more under a sanitizer, and, where
 # it is installed, under valgrind.
 #
 #     rt staticlib yokberd && tools/test-c.sh
@@ -14,11 +14,11 @@ archive=target/staticlib/libyokberd.a
 work=$(mktemp -d)
 trap 'rm -rf "$work"' EXIT
 cc=${CC:-cc}
-pair=crates/vectors/data/overloads
+pair=crates/test_vectors/data/overloads
 
 # the section of `overloads` with the example's flags, 0x1e
 awk '/^== /{on = $2 == "overloads"; ids = 0; next} !/^0x/{ids = on && $0 == "ids flags 0x1e"; next} ids && $2 == 0 {sub(/ 0 0x0 /, " "); print}' \
-    crates/vectors/stdout >"$work/expected"
+    crates/test_vectors/stdout >"$work/expected"
 cat >>"$work/expected" <<'END'
 function 0x1001 void advance(float)
 type 0x640 float*, 8 bytes

@@ -13,7 +13,7 @@ use native.Mathlib.Decide.{decLt}
 use native.Mathlib.Numerals.{add-one}
 use native.Mathlib.Omega.{arith}
 use borrow.Author.Tests.{eq-eqb, ne-eqb, lt-leb, le-leb, lt-ltb}
-use Rattle.reading.specs.Trace.{Key, key}
+use Rattle.interpreter.specs.Trace.{Key, key}
 use Rattle.rules.specs.Text.{Level, level, overPointee}
 use Rattle.codeview.specs.Record.{bit}
 use Rattle.codeview.specs.declared.record.PointerMode.{PointerMode}

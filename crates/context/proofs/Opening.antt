@@ -19,12 +19,13 @@ use Rattle.codeview.specs.Read.{readType}
 use Rattle.codeview.specs.declared.record.TypeData.{TypeData}
 use Rattle.codeview.specs.declared.record.TypeRead.{TypeRead}
 use Rattle.codeview.specs.declared.record.TypeRead.the-variants as typeRead
-use Rattle.reading.specs.Trace.{Trace, tr, halted, again, deep, count, prefix, Key, key, Held, held, through, opens, isOpen, exec, strict, refuse}
-use Rattle.reading.specs.Trace as trace
-use Rattle.reading.proofs.Laws.{walk-through, walk-again, walk-deep, walk-open}
+use Rattle.interpreter.specs.Trace.{Trace, tr, halted, again, deep, count, prefix, Key, key, Held, held, through, opens, isOpen, exec, strict, refuse}
+use Rattle.interpreter.specs.Trace as trace
+use Rattle.interpreter.proofs.Laws.{walk-through, walk-again, walk-deep, walk-open}
 use Rattle.rules.specs.Flags.{Settings}
-use Rattle.rules.specs.Record.{Record, good, bad, Table, typeContents, typeReading, tableOf}
-use Rattle.rules.specs.Rules.{Task, Rule, inside, unread, sameIndex, entryOf, body, rank, walked, ruled}
+use Rattle.rules.specs.Record.{Record, good, bad, Table, typeContents, typeAsRead, tableOf}
+use Rattle.rules.specs.Task.{Task, Rule, inside, unread}
+use Rattle.rules.specs.Opening.{sameIndex, entryOf, body, rank, walked, ruled}
 use Rattle.rules.proofs.Rank.{ranked}
 use Rattle.pen.specs.Page.{Page, page, Wrote, idle, gone, counted, unreadPen, unreadTrace, step, opened, stopOf, _⨾_}
 use Rattle.pen.specs.declared.Pen.{Pen}
@@ -152,11 +153,11 @@ module _ (s d : List ℕ) (call : Call) (o : List ℕ) where
 
   -- What was read.
   pub read-good : (i : ℕ) (r : TypeRead) (x : TypeData) → r ≡ readType s (call .types) i → r ≡ typeRead.Good x → t .types i ≡ good (typeContents s x)
-  unfolding tableIn tableOf typeReading
+  unfolding tableIn tableOf typeAsRead
   read-good i r x e f = let k : readType s (call .types) i ≡ typeRead.Good x = cc in rw k
 
   pub read-bad : (i : ℕ) (r : TypeRead) (f : Refusal) → r ≡ readType s (call .types) i → r ≡ typeRead.Refused f → t .types i ≡ bad f
-  unfolding tableIn tableOf typeReading
+  unfolding tableIn tableOf typeAsRead
   read-bad i r f e g = let k : readType s (call .types) i ≡ typeRead.Refused f = cc in rw k
 
   pub walk-on : (q : Task) (p : Rule) → entryOf c t q ≡ through → body c t q ≡ p → step ⨾ ruled c t h p ≡ walked c t h q

@@ -10,7 +10,7 @@ use Rattle.wire.specs.Field.{pick}
 use Rattle.streams.specs.declared.refusal.Refusal.the-variants.{UnknownFlags}
 use Rattle.codeview.specs.declared.record.PointerMode.{PointerMode}
 use Rattle.codeview.specs.declared.record.PointerMode.the-variants as mode
-use Rattle.reading.specs.Trace.{Key, key, Held, held}
+use Rattle.interpreter.specs.Trace.{Key, key, Held, held}
 use Rattle.rules.specs.Flags.{Settings, settings}
 use Rattle.rules.specs.Record.{Table, tableOf}
 use Rattle.rules.specs.Text.{Level, level}

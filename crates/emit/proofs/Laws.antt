@@ -31,8 +31,8 @@ use Rattle.codeview.specs.declared.record.TypeRead.{TypeRead}
 use Rattle.codeview.specs.declared.record.TypeRead.the-variants.{Good, Refused}
 use Rattle.codeview.proofs.record.TypeData.{the-type}
 use Rattle.codeview.proofs.Tags.{by-tag}
-use Rattle.reading.specs.Trace.{
-  Mark,
+use Rattle.interpreter.specs.Trace.{
+  Note,
   Count,
   plus,
   Trace,
@@ -66,7 +66,7 @@ use Rattle.reading.specs.Trace.{
   seq,
   after,
 }
-use Rattle.reading.specs.Trace as trace
+use Rattle.interpreter.specs.Trace as trace
 use Rattle.rules.specs.Flags.{Settings}
 use Rattle.rules.specs.Record.{
   Record,
@@ -86,53 +86,19 @@ use Rattle.rules.specs.Record.{
   primitiveOr,
   namedOr,
   typeContents,
-  typeReading,
+  typeAsRead,
   tableOf,
   numbersAt,
 }
 use Rattle.rules.specs.Text.{missingMark, primitiveText, Level, level, levels, overPointee, endsSigned, brackets}
-use Rattle.rules.specs.Rules.{
-  Task,
-  byItself,
-  target,
-  targetOfModifier,
-  modified,
-  listOf,
-  element,
-  sizeOf,
-  Rule,
-  inside,
-  texted,
-  unread,
-  marked,
-  valueOf,
-  result,
-  procedureResult,
-  returned,
-  methodArguments,
-  listed,
-  entries,
-  namedText,
-  typeText,
-  alone,
-  pointed,
-  aimed,
-  aimedAgain,
-  modifiedText,
-  methodText,
-  thisPointer,
-  methodList,
-  baseText,
-  afterRead,
-  sameIndex,
-  entryOf,
-  body,
-  rank,
-  walked,
-  ruled,
-}
+use Rattle.rules.specs.Task.{Task, byItself, target, targetOfModifier, modified, listOf, element, sizeOf, Rule, inside, texted, unread, marked, valueOf, separated}
+use Rattle.rules.specs.Types.{result, procedureResult, returned, methodArguments, argumentEntries, namedText, typeText, alone}
+use Rattle.rules.specs.Pointers.{pointed, aimed, aimedAgain, modifiedText}
+use Rattle.rules.specs.Methods.{methodText, thisPointer, methodList}
+use Rattle.rules.specs.Arrays.{baseText}
+use Rattle.rules.specs.Opening.{afterRead, sameIndex, entryOf, body, rank, walked, ruled}
 use Rattle.pen.specs.declared.Pen.{Pen}
-use Rattle.pen.specs.Page.{Page, page, Wrote, run, idle, say, step, unreadTrace, last, _⨾_, ending, marking}
+use Rattle.pen.specs.Page.{Page, page, Wrote, pageAfter, idle, writing, step, unreadTrace, last, _⨾_, ending, marking}
 use Rattle.pen.proofs.Laws.{_▹_, _▸_, wrote-as, wrote-step, wrote-idle, wrote-same, wrote-by, prefix-none}
 use Rattle.context.specs.declared.flags.Call.{Call}
 use Rattle.context.specs.declared.seen.Way.{Way}
@@ -144,20 +110,20 @@ use Rattle.context.specs.declared.seen.TypeOpening.the-variants as typeOpening
 use Rattle.context.specs.Context.{settingsOf, tableIn, holding, sizesOf}
 use Rattle.context.specs.Opening.{wayOf, Opens, OpensType}
 use Rattle.context.proofs.Opening.{In, in-length, ruled-pick, unread-is, read-good, read-bad, walk-on, open-in, opened-then, stopped-then, type-stopped, type-open}
-use Rattle.writers.specs.Writers.{markTrace}
-use Rattle.pieces.specs.Pieces.{recordText, isSign}
-use Rattle.methods.specs.This.{thisOf, byThis}
-use Rattle.methods.specs.declared.ThisRead.{ThisRead}
-use Rattle.methods.specs.declared.ThisRead.the-variants as this
-use Rattle.methods.proofs.Laws.{this-is}
-use Rattle.arrays.specs.Arrays.{arrayed, endArrayed, endTrace, Info}
-use Rattle.arrays.specs.declared.ArrayEnd.{ArrayEnd}
-use Rattle.arrays.specs.declared.ArrayEnd.the-variants as end
-use Rattle.arrays.specs.declared.ArrayInfo.{ArrayInfo}
-use Rattle.sizes.specs.Sizes.{Sizes, sizeTrace}
-use Rattle.sizes.specs.declared.SizeRead.{SizeRead}
-use Rattle.sizes.specs.declared.SizeRead.the-variants as sized
-use Rattle.emit.specs.Walking.{methodOf, behind, aimedAt, wayTo, aimedRule}
+use Rattle.leaf_writers.specs.Writers.{markTrace}
+use Rattle.leaf_writers.specs.Pieces.{recordText, isSign}
+use Rattle.queries.specs.This.{thisOf, byThis}
+use Rattle.queries.specs.declared.this.ThisRead.{ThisRead}
+use Rattle.queries.specs.declared.this.ThisRead.the-variants as this
+use Rattle.queries.proofs.ThisLaws.{this-is}
+use Rattle.queries.specs.Arrays.{arrayed, endArrayed, endTrace, Info}
+use Rattle.queries.specs.declared.arrays.ArrayEnd.{ArrayEnd}
+use Rattle.queries.specs.declared.arrays.ArrayEnd.the-variants as end
+use Rattle.queries.specs.declared.arrays.ArrayInfo.{ArrayInfo}
+use Rattle.queries.specs.Sizes.{Sizes, sizeTrace}
+use Rattle.queries.specs.declared.sizes.SizeRead.{SizeRead}
+use Rattle.queries.specs.declared.sizes.SizeRead.the-variants as sized
+use Rattle.emit.specs.Walking.{methodOf, plainPointed, aimedAt, wayTo, aimedRule}
 
 -- What is lent on once an index is open.
 pub in-lent : {p : Pen} {o : List ℕ} {w : Way} {i : ℕ} {l : List ℕ} {q : Pen} {n : ℕ} → In p o w i l q n → n ≡ length (take n l)
@@ -168,7 +134,7 @@ in-fits k = omega (arith, k .many, k .few, k .all)
 
 -- Taking up records without opening them changes nothing of a page.
 wrote-taken : {g : Page} (k : ℕ) → Wrote g (tr [] done [] (count 0 k)) g
-unfolding run step
+unfolding pageAfter step
 wrote-taken {g} k = record { is = wrote-step {g = g} .is }
 
 pub wrote-later : {g h : Page} {t : Trace Refusal} (k : ℕ) → Wrote g t h → Wrote g (prefix [] [] (count 0 k) t) h
@@ -189,14 +155,14 @@ ends-signed (b ∷ []) = refl
 ends-signed (b ∷ d ∷ bs) = ends-signed (d ∷ bs)
 
 -- One trace after two others.
-prefixed : (bs cs : List ℕ) (ns ms : List Mark) (j k : Count) (t : Trace Refusal)
+prefixed : (bs cs : List ℕ) (ns ms : List Note) (j k : Count) (t : Trace Refusal)
     → prefix (bs ++ cs) (ns ++ ms) (plus j k) t ≡ prefix bs ns j (prefix cs ms k t)
 prefixed bs cs ns ms j k (tr ds e ls l) =
     let a : (j .opened + k .opened) + l .opened ≡ j .opened + (k .opened + l .opened) = omega arith in
     let b : (j .taken + k .taken) + l .taken ≡ j .taken + (k .taken + l .taken) = omega arith in
     rw (a, b, append-assoc, append-assoc)
 
-after-prefix : (bs : List ℕ) (ns : List Mark) (j : Count) (t u : Trace Refusal) → (prefix bs ns j t) ⨾ u ≡ prefix bs ns j (t ⨾ u)
+after-prefix : (bs : List ℕ) (ns : List Note) (j : Count) (t u : Trace Refusal) → (prefix bs ns j t) ⨾ u ≡ prefix bs ns j (t ⨾ u)
 unfolding _⨾_
 after-prefix bs ns j (tr cs done ms k) u = prefixed bs cs ns ms j k u
 after-prefix bs ns j (tr cs (missing i) ms k) u = refl
@@ -234,9 +200,9 @@ module _ (c : Settings) (s : List ℕ) where
   aimed-other ls true = by-tag noPointerModifier (λ t. aimedRule c true ls (typeContents s t) ≡ pointed c ls (typeContents s t)) search
   aimed-other ls false = by-tag noPointerModifier (λ t. aimedRule c false ls (typeContents s t) ≡ pointed c ls (typeContents s t)) search
 
-  pointed-plain : (ls : List Level) (t : TypeData) → OneOf noFunction (tagOf the-type t) → pointed c ls (typeContents s t) ≡ behind c ls (typeContents s t)
+  pointed-plain : (ls : List Level) (t : TypeData) → OneOf noFunction (tagOf the-type t) → pointed c ls (typeContents s t) ≡ plainPointed c ls (typeContents s t)
   unfolding pointed typeContents
-  pointed-plain ls = by-tag noFunction (λ t. pointed c ls (typeContents s t) ≡ behind c ls (typeContents s t)) search
+  pointed-plain ls = by-tag noFunction (λ t. pointed c ls (typeContents s t) ≡ plainPointed c ls (typeContents s t)) search
 
   modified-other : (b : Bool) (t : TypeData) → OneOf noPointerPrimitive (tagOf the-type t) → modifiedText c b (typeContents s t) ≡ seq (write (pick b (bytes "const ") [])) (texted (typeText c (typeContents s t)))
   unfolding modifiedText typeContents
@@ -257,22 +223,22 @@ module _ (c : Settings) (t : Table) (h : Held) where
   marked-is f =
       sym
       (ruled-pick c t h (eqb (numberOf f) 8) _ _
-      ∙ ap (λ (x : Trace Refusal). pick (eqb (numberOf f) 8) (say (missingMark (detailOf f))) x) (ruled-pick c t h (eqb (numberOf f) 7) _ _))
+      ∙ ap (λ (x : Trace Refusal). pick (eqb (numberOf f) 8) (writing (missingMark (detailOf f))) x) (ruled-pick c t h (eqb (numberOf f) 7) _ _))
 
   -- A type's text, with the mark where an index was missing.
-  pub text-is : (p : Rule) → marking (ruled c t h p) (λ i. say (missingMark i)) ≡ ruled c t h (texted p)
+  pub text-is : (p : Rule) → marking (ruled c t h p) (λ i. writing (missingMark i)) ≡ ruled c t h (texted p)
   unfolding ruled exec marking
   text-is p = refl
 
-  pub text-by : (u : Trace Refusal) (p : Rule) → u ≡ ruled c t h p → marking u (λ i. say (missingMark i)) ≡ ruled c t h (texted p)
-  text-by u p e = ap (λ (x : Trace Refusal). marking x (λ i. say (missingMark i))) e ∙ text-is p
+  pub text-by : (u : Trace Refusal) (p : Rule) → u ≡ ruled c t h p → marking u (λ i. writing (missingMark i)) ≡ ruled c t h (texted p)
+  text-by u p e = ap (λ (x : Trace Refusal). marking x (λ i. writing (missingMark i))) e ∙ text-is p
 
   -- A result.
-  pub result-none : (b : Bool) (i : ℕ) → b ≡ true → say [] ≡ ruled c t h (result c b i)
+  pub result-none : (b : Bool) (i : ℕ) → b ≡ true → writing [] ≡ ruled c t h (result c b i)
   unfolding ruled exec result
   result-none b i e = rw e
 
-  pub result-some : (b : Bool) (i : ℕ) → b ≡ false → walked c t h (byItself i) ⨾ say (bytes " ") ≡ ruled c t h (result c b i)
+  pub result-some : (b : Bool) (i : ℕ) → b ≡ false → walked c t h (byItself i) ⨾ writing (bytes " ") ≡ ruled c t h (result c b i)
   unfolding ruled exec result _⨾_
   result-some b i e = rw e
 
@@ -287,33 +253,33 @@ module _ (c : Settings) (t : Table) (h : Held) where
 
   -- A bare procedure and a bare method.
   procedure-is : (r list : ℕ) (b v none : Bool) → v ≡ b || eqb r 0 → none ≡ c .noReturn || v
-      → ruled c t h (result c none r) ⨾ say (bytes "()(") ⨾ walked c t h (byItself list) ≡ ruled c t h (typeText c (procedure r b list))
+      → ruled c t h (result c none r) ⨾ writing (bytes "()(") ⨾ walked c t h (byItself list) ≡ ruled c t h (typeText c (procedure r b list))
   unfolding ruled exec typeText procedureResult _⨾_
   procedure-is r list b v none e f =
       let k : none ≡ c .noReturn || (b || eqb r 0) = rw (← e) f in
-      ap (λ (x : Trace Refusal). x ⨾ say (bytes "()(") ⨾ walked c t h (byItself list)) (returned-is none (b || eqb r 0) r k)
+      ap (λ (x : Trace Refusal). x ⨾ writing (bytes "()(") ⨾ walked c t h (byItself list)) (returned-is none (b || eqb r 0) r k)
 
   method-is : (m : Method) (none : Bool) → none ≡ c .noReturn || m .constructor
-      → ruled c t h (result c none (m .result)) ⨾ say (bytes "()") ⨾ ruled c t h (methodArguments c m false) ≡ ruled c t h (typeText c (method m))
+      → ruled c t h (result c none (m .result)) ⨾ writing (bytes "()") ⨾ ruled c t h (methodArguments c m false) ≡ ruled c t h (typeText c (method m))
   unfolding ruled exec typeText _⨾_
   method-is m none e =
-      ap (λ (x : Trace Refusal). x ⨾ say (bytes "()") ⨾ ruled c t h (methodArguments c m false)) (returned-is none (m .constructor) (m .result) e)
+      ap (λ (x : Trace Refusal). x ⨾ writing (bytes "()") ⨾ ruled c t h (methodArguments c m false)) (returned-is none (m .constructor) (m .result) e)
 
   -- What is under pointers.
   pub member-ptr-is : (ls : List Level) (m : Method)
-      → ruled c t h (result c (m .constructor) (m .result)) ⨾ say (bytes "(") ⨾ walked c t h (byItself (m .class)) ⨾ say (levels c false false ls) ⨾ say (bytes ")")
+      → ruled c t h (result c (m .constructor) (m .result)) ⨾ writing (bytes "(") ⨾ walked c t h (byItself (m .class)) ⨾ writing (levels c false false ls) ⨾ writing (bytes ")")
       ⨾ ruled c t h (methodArguments c m false) ≡ ruled c t h (pointed c ls (method m))
   unfolding ruled exec pointed _⨾_
   member-ptr-is ls m = refl
 
   pub proc-ptr-is : (ls : List Level) (r list : ℕ) (b none : Bool) → none ≡ b || eqb r 0
-      → ruled c t h (result c none r) ⨾ say (bytes "(") ⨾ say (levels c false false ls) ⨾ say (bytes ")") ⨾ say (bytes "(") ⨾ walked c t h (byItself list) ⨾ say (bytes ")")
+      → ruled c t h (result c none r) ⨾ writing (bytes "(") ⨾ writing (levels c false false ls) ⨾ writing (bytes ")") ⨾ writing (bytes "(") ⨾ walked c t h (byItself list) ⨾ writing (bytes ")")
       ≡ ruled c t h (pointed c ls (procedure r b list))
   unfolding ruled exec pointed procedureResult _⨾_
   proc-ptr-is ls r list b none e = rw e
 
   pub other-ptr-is : (ls : List Level) (r : Record)
-      → ending (ruled c t h (texted (typeText c r))) (λ b. levels c true (isSign b) ls) ≡ ruled c t h (behind c ls r)
+      → ending (ruled c t h (texted (typeText c r))) (λ b. levels c true (isSign b) ls) ≡ ruled c t h (plainPointed c ls r)
   unfolding ruled exec ending
   other-ptr-is ls r =
       then-same (ruled c t h (texted (typeText c r))) (λ bs. tr (levels c true (isSign (last 0 bs)) ls) done [] (count 0 0))
@@ -321,18 +287,18 @@ module _ (c : Settings) (t : Table) (h : Held) where
       (λ bs. ap (λ b. tr (levels c true b ls) done [] (count 0 0)) (sym (ends-signed bs)))
 
   -- The entries of a list, whatever stands between them.
-  entries-none : (sep : List ℕ) (b : Bool) → say [] ≡ ruled c t h (listed sep b [])
-  unfolding ruled exec listed
+  entries-none : (sep : List ℕ) (b : Bool) → writing [] ≡ ruled c t h (separated sep b [])
+  unfolding ruled exec separated
   entries-none sep b = refl
 
   entries-more : (sep : List ℕ) (b : Bool) (a : ℕ) (al : List ℕ)
-      → say (pick b sep []) ⨾ walked c t h (byItself a) ⨾ ruled c t h (listed sep true al) ≡ ruled c t h (listed sep b (a ∷ al))
-  unfolding ruled exec listed _⨾_
+      → writing (pick b sep []) ⨾ walked c t h (byItself a) ⨾ ruled c t h (separated sep true al) ≡ ruled c t h (separated sep b (a ∷ al))
+  unfolding ruled exec separated _⨾_
   entries-more sep b a al = refl
 
   -- What follows from the this pointer.
   pub given-is : (m : Method) (list : List ℕ) (closes constant shut : Bool) → shut ≡ closes && constant
-      → say (bytes "(") ⨾ ruled c t h (entries c false list) ⨾ say (bytes ")") ⨾ say (pick shut (bytes " const") [])
+      → writing (bytes "(") ⨾ ruled c t h (argumentEntries c false list) ⨾ writing (bytes ")") ⨾ writing (pick shut (bytes " const") [])
       ≡ ruled c t h (methodText c m closes list false constant)
   unfolding ruled exec methodText _⨾_
   given-is m list closes constant shut e =
@@ -343,7 +309,7 @@ module _ (c : Settings) (t : Table) (h : Held) where
   never-shut false = refl
 
   pub extra-is : (m : Method) (list : List ℕ) (closes : Bool)
-      → say (bytes "(") ⨾ walked c t h (byItself (m .this)) ⨾ ruled c t h (entries c true list) ⨾ say (bytes ")")
+      → writing (bytes "(") ⨾ walked c t h (byItself (m .this)) ⨾ ruled c t h (argumentEntries c true list) ⨾ writing (bytes ")")
       ≡ ruled c t h (methodText c m closes list true false)
   unfolding ruled exec methodText _⨾_
   extra-is m list closes = rw (never-shut closes)
@@ -430,7 +396,7 @@ module _ (s d : List ℕ) (call : Call) (o : List ℕ) where
 
   -- A method's arguments.
   module _ (m : Method) (closes : Bool) where
-    pub args-hidden : (b : Bool) → b ≡ c .noArguments → b ≡ true → say [] ≡ ruled c t h (methodArguments c m closes)
+    pub args-hidden : (b : Bool) → b ≡ c .noArguments → b ≡ true → writing [] ≡ ruled c t h (methodArguments c m closes)
     unfolding ruled exec methodArguments
     args-hidden b e f = let k : c .noArguments ≡ true = cc in rw k
 
@@ -493,29 +459,29 @@ module _ (s d : List ℕ) (call : Call) (o : List ℕ) where
     unfolding ruled exec modifiedText typeContents
     modified-pointer p w g q e f u v = rw (e, v, u, f)
 
-    pub modified-primitive : (p : PrimitiveType) → x ≡ type.Primitive p → say (primitiveText c n (p .code) (p .indirection)) ≡ ruled c t h (modifiedText c n (typeContents s x))
+    pub modified-primitive : (p : PrimitiveType) → x ≡ type.Primitive p → writing (primitiveText c n (p .code) (p .indirection)) ≡ ruled c t h (modifiedText c n (typeContents s x))
     unfolding ruled exec modifiedText typeContents
     modified-primitive p e = rw e
 
     pub modified-plain : OneOf noPointerPrimitive (tagOf the-type x)
-        → say (pick n (bytes "const ") []) ⨾ ruled c t h (texted (typeText c (typeContents s x))) ≡ ruled c t h (modifiedText c n (typeContents s x))
+        → writing (pick n (bytes "const ") []) ⨾ ruled c t h (texted (typeText c (typeContents s x))) ≡ ruled c t h (modifiedText c n (typeContents s x))
     unfolding ruled exec _⨾_
     modified-plain j = rw (modified-other c s n x j)
 
   -- The this pointer decides what follows.
-  module _ (m : Method) (closes : Bool) (list : List ℕ) (r : ThisRead) (e : r ≡ thisOf (λ i. typeReading s (readType s (call .types) i)) (m .this) (m .class)) where
+  module _ (m : Method) (closes : Bool) (list : List ℕ) (r : ThisRead) (e : r ≡ thisOf (λ i. typeAsRead s (readType s (call .types) i)) (m .this) (m .class)) where
     by-this : ruled c t h (byThis r (λ extra constant. methodText c m closes list extra constant)) ≡ ruled c t h (methodList c t m closes (arguments list))
     unfolding methodList tableIn tableOf
     by-this = rw e (ap (λ (p : Rule). ruled c t h p) (sym (this-is c t m (λ extra constant. methodText c m closes list extra constant))))
 
     pub this-given : (constant shut : Bool) → r ≡ this.Given constant → shut ≡ closes && constant
-        → say (bytes "(") ⨾ ruled c t h (entries c false list) ⨾ say (bytes ")") ⨾ say (pick shut (bytes " const") [])
+        → writing (bytes "(") ⨾ ruled c t h (argumentEntries c false list) ⨾ writing (bytes ")") ⨾ writing (pick shut (bytes " const") [])
         ≡ ruled c t h (methodList c t m closes (arguments list))
     unfolding byThis
     this-given constant shut f g = given-is c t h m list closes constant shut g ∙ (rw f at by-this)
 
     pub this-extra : r ≡ this.Other
-        → say (bytes "(") ⨾ walked c t h (byItself (m .this)) ⨾ ruled c t h (entries c true list) ⨾ say (bytes ")")
+        → writing (bytes "(") ⨾ walked c t h (byItself (m .this)) ⨾ ruled c t h (argumentEntries c true list) ⨾ writing (bytes ")")
         ≡ ruled c t h (methodList c t m closes (arguments list))
     unfolding byThis
     this-extra f = extra-is c t h m list closes ∙ (rw f at by-this)
@@ -526,7 +492,7 @@ module _ (s d : List ℕ) (call : Call) (o : List ℕ) where
 
   -- A type by its kind.
   pub inner-primitive : (x : TypeData) (p : PrimitiveType) → x ≡ type.Primitive p
-      → say (primitiveText c false (p .code) (p .indirection)) ≡ ruled c t h (typeText c (typeContents s x))
+      → writing (primitiveText c false (p .code) (p .indirection)) ≡ ruled c t h (typeText c (typeContents s x))
   unfolding ruled exec typeText typeContents
   inner-primitive x p e = rw e
 
@@ -541,17 +507,17 @@ module _ (s d : List ℕ) (call : Call) (o : List ℕ) where
   inner-pointer x p g q e f k = rw (e, k, f)
 
   pub inner-procedure : (x : TypeData) (p : ProcedureType) (v none : Bool) → x ≡ type.Procedure p → v ≡ p .constructor || eqb (p .result .0) 0 → none ≡ c .noReturn || v
-      → ruled c t h (result c none (p .result .0)) ⨾ say (bytes "()(") ⨾ walked c t h (byItself (p .arguments .0)) ≡ ruled c t h (typeText c (typeContents s x))
+      → ruled c t h (result c none (p .result .0)) ⨾ writing (bytes "()(") ⨾ walked c t h (byItself (p .arguments .0)) ≡ ruled c t h (typeText c (typeContents s x))
   unfolding typeContents
   inner-procedure x p v none e f g = rw e (procedure-is c t h (p .result .0) (p .arguments .0) (p .constructor) v none f g)
 
   pub inner-method : (x : TypeData) (p : MemberFunctionType) (none : Bool) → x ≡ type.MemberFunction p → none ≡ c .noReturn || p .constructor
-      → ruled c t h (result c none (p .result .0)) ⨾ say (bytes "()") ⨾ ruled c t h (methodArguments c (methodOf p) false) ≡ ruled c t h (typeText c (typeContents s x))
+      → ruled c t h (result c none (p .result .0)) ⨾ writing (bytes "()") ⨾ ruled c t h (methodArguments c (methodOf p) false) ≡ ruled c t h (typeText c (typeContents s x))
   unfolding typeContents
   inner-method x p none e f = rw e (method-is c t h (methodOf p) none f)
 
   pub inner-list : (x : TypeData) (p : Entries) → x ≡ type.ArgumentList p
-      → ruled c t h (entries c false (numbersAt s (p .start) (p .count))) ≡ ruled c t h (typeText c (typeContents s x))
+      → ruled c t h (argumentEntries c false (numbersAt s (p .start) (p .count))) ≡ ruled c t h (typeText c (typeContents s x))
   unfolding typeText typeContents
   inner-list x p e = rw e
 
@@ -560,7 +526,7 @@ module _ (s d : List ℕ) (call : Call) (o : List ℕ) where
   unfolding ruled exec typeText typeContents
   inner-array x p e = rw e
 
-  pub inner-named : (x : TypeData) → OneOf onlyNamed (tagOf the-type x) → say (recordText c s x) ≡ ruled c t h (typeText c (typeContents s x))
+  pub inner-named : (x : TypeData) → OneOf onlyNamed (tagOf the-type x) → writing (recordText c s x) ≡ ruled c t h (typeText c (typeContents s x))
   unfolding ruled exec
   inner-named x n = rw (named-only c s x n)
 
@@ -576,7 +542,7 @@ module _ (s d : List ℕ) (call : Call) (o : List ℕ) where
   helper-procedure x ls p e = rw e
 
   pub helper-other : (x : TypeData) (ls : List Level) → OneOf noFunction (tagOf the-type x)
-      → ruled c t h (behind c ls (typeContents s x)) ≡ ruled c t h (pointed c ls (typeContents s x))
+      → ruled c t h (plainPointed c ls (typeContents s x)) ≡ ruled c t h (pointed c ls (typeContents s x))
   helper-other x ls n = rw (pointed-plain c s ls x n)
 
   -- An array: what its levels end in.
@@ -608,7 +574,7 @@ module _ (s d : List ℕ) (call : Call) (o : List ℕ) where
       unfolding sizeTrace
       array-unsized i g = let k : y .taken + 0 ≡ y .taken = omega arith in rw k (rw g at sized-is)
 
-      pub array-base : (v : ℕ) → z ≡ sized.Bytes v → later (prefix [] [] (count 0 (y .taken)) (ruled c t h text ⨾ say (brackets v (sizesOf (r .sizes))))) ≡ walked c t h (element e (size ∷ []))
+      pub array-base : (v : ℕ) → z ≡ sized.Bytes v → later (prefix [] [] (count 0 (y .taken)) (ruled c t h text ⨾ writing (brackets v (sizesOf (r .sizes))))) ≡ walked c t h (element e (size ∷ []))
       unfolding ruled exec sizeTrace valueOf _⨾_
       array-base v g = rw g at sized-is
 
@@ -664,7 +630,7 @@ from-none s e i h = let a : e .count - i ≡ 0 = omega arith in rw a
 -- The loop over a list, its entries read from a stream and a text between them: whatever the rest makes of the page, the whole makes of the first page.
 module _ (s d : List ℕ) (call : Call) (o stream sep : List ℕ) (e : Entries) where
   abbrev pub entriesTrace : Bool → List ℕ → Trace Refusal
-  entriesTrace between list = ruled (settingsOf call) (tableIn s d call) (holding call o) (listed sep between list)
+  entriesTrace between list = ruled (settingsOf call) (tableIn s d call) (holding call o) (separated sep between list)
 
   pub record Rest (first between : Bool) (i : ℕ) (g h : Page) : Type 0 where
     pub goes : (k : Page) → Wrote g (entriesTrace between (from stream e i)) k → Wrote h (entriesTrace first (numbersAt stream (e .start) (e .count))) k
@@ -673,7 +639,7 @@ module _ (s d : List ℕ) (call : Call) (o stream sep : List ℕ) (e : Entries) 
   rest-all first g = record { goes = λ k w. wrote-as (ap (entriesTrace first) (from-all stream e)) w }
 
   module _ (first between : Bool) (i : ℕ) (g h : Page) (r : Rest first between i g h) where
-    pub rest-next : (a : ℕ) (f m : Page) → i < e .count → a ≡ number 4 stream (e .start + 4 * i) → Wrote g (say (pick between sep [])) f
+    pub rest-next : (a : ℕ) (f m : Page) → i < e .count → a ≡ number 4 stream (e .start + 4 * i) → Wrote g (writing (pick between sep [])) f
         → Wrote f (walked (settingsOf call) (tableIn s d call) (holding call o) (byItself a)) m → Rest first true (i + 1) m h
     rest-next a f m l q v w =
         record {

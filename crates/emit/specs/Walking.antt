@@ -4,11 +4,14 @@ use mathlib.Core.Bool.{Bool, true, false}
 use mathlib.Core.List.{List}
 use Rattle.streams.specs.declared.refusal.Refusal.{Refusal}
 use Rattle.codeview.specs.declared.record.MemberFunctionType.{MemberFunctionType}
-use Rattle.reading.specs.Trace.{Trace, after}
+use Rattle.interpreter.specs.Trace.{Trace, after}
 use Rattle.rules.specs.Flags.{Settings}
 use Rattle.rules.specs.Record.{Record, Method}
 use Rattle.rules.specs.Text.{Level, levels, endsSigned}
-use Rattle.rules.specs.Rules.{Task, target, targetOfModifier, Rule, texted, typeText, aimed, aimedAgain, walked, ruled}
+use Rattle.rules.specs.Task.{Task, target, targetOfModifier, Rule, texted}
+use Rattle.rules.specs.Types.{typeText}
+use Rattle.rules.specs.Pointers.{aimed, aimedAgain}
+use Rattle.rules.specs.Opening.{walked, ruled}
 use Rattle.context.specs.declared.flags.Call.{Call}
 use Rattle.context.specs.declared.seen.Way.{Way}
 use Rattle.context.specs.declared.seen.Way.the-variants as way
@@ -32,8 +35,8 @@ methodOf m =
     }
 
 -- A type that is neither method nor procedure, under the levels of its pointers (the last case of `pointed`).
-abbrev pub behind : Settings → List Level → Record → Rule
-behind c ls r = after (texted (typeText c r)) (λ bs. levels c true (endsSigned bs) ls)
+abbrev pub plainPointed : Settings → List Level → Record → Rule
+plainPointed c ls r = after (texted (typeText c r)) (λ bs. levels c true (endsSigned bs) ls)
 
 -- A pointer's target, or that of a pointer's modifier, and the way in which it is opened.
 abbrev pub aimedAt : Bool → ℕ → List Level → Task

@@ -7,12 +7,13 @@ ghost use mathlib.Core.Bool.{false};
 ghost use mathlib.Core.List.{[], _∷_};
 ghost use Rattle.rules.specs.Text.{level};
 ghost use Rattle.rules.specs.Record.{method, procedure, arguments, typeContents, numbersAt};
-ghost use Rattle.rules.specs.Rules.{byItself, modified, element, texted, typeText, pointed, result, methodArguments, methodList, entries};
+ghost use Rattle.rules.specs.Task.{byItself, modified, element, texted};
+ghost use Rattle.rules.specs.Types.{typeText, result, methodArguments, argumentEntries};
+ghost use Rattle.rules.specs.Pointers.{pointed};
+ghost use Rattle.rules.specs.Methods.{methodList};
 ghost use Rattle.pen.specs.Page.{page, Wrote};
 ghost use Rattle.context.specs.Context.{settingsOf, tableIn, levelsOf};
-ghost use Rattle.emit.specs.Walking.{walking, ruling, methodOf, behind, aimedAt, wayTo};
-use arrays::ArrayEnd;
-use arrays::get_array_info;
+ghost use Rattle.emit.specs.Walking.{walking, ruling, methodOf, plainPointed, aimedAt, wayTo};
 use codeview::index::TypeIndex;
 use codeview::record::ArrayType;
 use codeview::record::Entries;
@@ -33,27 +34,29 @@ use context::seen::TypeOpening;
 use context::seen::Way;
 use context::seen::open_index;
 use context::seen::open_type;
-use methods::ThisRead;
-use methods::check_ptr_class;
-use parts::attributes::emit_attributes;
-use parts::brackets::emit_brackets;
-use parts::named::emit_primitive;
-use parts::settings::no_arguments;
-use parts::settings::text_if;
+use leaf_writers::attributes::emit_attributes;
+use leaf_writers::brackets::emit_brackets;
+use leaf_writers::fragments::both;
+use leaf_writers::fragments::either;
+use leaf_writers::fragments::emit_attributes_since;
+use leaf_writers::fragments::emit_comma;
+use leaf_writers::fragments::emit_record;
+use leaf_writers::fragments::entry_at;
+use leaf_writers::fragments::hides_return;
+use leaf_writers::fragments::is_void;
+use leaf_writers::marks::emit_mark;
+use leaf_writers::marks::mark_missing;
+use leaf_writers::named::emit_primitive;
+use leaf_writers::settings::no_arguments;
+use leaf_writers::settings::text_if;
 use pen::Pen;
-use pieces::both;
-use pieces::either;
-use pieces::emit_attributes_since;
-use pieces::emit_comma;
-use pieces::emit_record;
-use pieces::entry_at;
-use pieces::hides_return;
-use pieces::is_void;
-use sizes::SizeRead;
-use sizes::get_type_size;
+use queries::arrays::ArrayEnd;
+use queries::arrays::get_array_info;
+use queries::sizes::SizeRead;
+use queries::sizes::get_type_size;
+use queries::this::ThisRead;
+use queries::this::check_ptr_class;
 use streams::refusal::Refusal;
-use writers::marks::mark;
-use writers::marks::marked;
 
 // A result and a space; nothing where there is none to write.
 pub fn emit_return_type(
@@ -200,7 +203,7 @@ fn emit_other_ptr(
     t: TypeData,
 ) -> Pen
     requires { ⌜ 1 ≤ length (now seen) ⌝ }
-    ensures { λ r. ⌜ Wrote (page (now (out .entry)) p) (ruling (now (types .entry)) (now (ids .entry)) call (now (seen .entry)) (behind (settingsOf call) (levelsOf levels) (typeContents (now (types .entry)) t))) (page (now (out .exit)) r) ⌝ }
+    ensures { λ r. ⌜ Wrote (page (now (out .entry)) p) (ruling (now (types .entry)) (now (ids .entry)) call (now (seen .entry)) (plainPointed (settingsOf call) (levelsOf levels) (typeContents (now (types .entry)) t))) (page (now (out .exit)) r) ⌝ }
 {
     let start = p.at;
     let q = emit_type(types, ids, out, p, call, seen, t);
@@ -324,12 +327,12 @@ fn base(
             let under = x.underlying;
             let first = aim(no_levels(), x.constant, mode);
             let q = emit_ptr(types, ids, out, p, call, seen, first, false, under);
-            marked(out, q)
+            mark_missing(out, q)
         }
         TypeData::Modifier(m) => {
             let under = m.underlying;
             let q = emit_modifier(types, ids, out, p, call, seen, m.constant, under);
-            marked(out, q)
+            mark_missing(out, q)
         }
         _ => emit_type(types, ids, out, p, call, seen, t),
     }
@@ -379,7 +382,7 @@ fn emit_arg_list(
     led: bool,
     e: Entries,
 ) -> Pen
-    ensures { λ r. ⌜ Wrote (page (now (out .entry)) p) (ruling (now (types .entry)) (now (ids .entry)) call (now (seen .entry)) (entries (settingsOf call) led (numbersAt (now (types .entry)) (e .start) (e .count)))) (page (now (out .exit)) r) ⌝ }
+    ensures { λ r. ⌜ Wrote (page (now (out .entry)) p) (ruling (now (types .entry)) (now (ids .entry)) call (now (seen .entry)) (argumentEntries (settingsOf call) led (numbersAt (now (types .entry)) (e .start) (e .count)))) (page (now (out .exit)) r) ⌝ }
 {
     let mut q = p;
     let mut between = led;
@@ -421,7 +424,7 @@ pub fn emit_type_index(
                 Opening::Stopped(q) => q,
             }
         }
-        TypeRead::Refused(f) => mark(out, p, f),
+        TypeRead::Refused(f) => emit_mark(out, p, f),
     }
 }
 
@@ -442,7 +445,7 @@ fn emit_type(
         return p;
     }
     let q = emit_type_inner(types, ids, out, p, call, seen, t);
-    marked(out, q)
+    mark_missing(out, q)
 }
 
 // A type by its kind. A bare procedure's text has no closing parenthesis.

@@ -34,7 +34,7 @@ use Rattle.codeview.specs.declared.record.IdRead.the-variants as idRead
 use Rattle.codeview.proofs.record.TypeData.{the-type}
 use Rattle.codeview.proofs.record.IdData.{the-type as the-id-type}
 use Rattle.codeview.proofs.Tags.{by-tag}
-use Rattle.reading.specs.Trace.{
+use Rattle.interpreter.specs.Trace.{
   Trace,
   tr,
   refused,
@@ -54,8 +54,8 @@ use Rattle.reading.specs.Trace.{
   refuse,
   seq,
 }
-use Rattle.reading.specs.Trace as trace
-use Rattle.reading.proofs.Laws.{walk-long, walk-fresh}
+use Rattle.interpreter.specs.Trace as trace
+use Rattle.interpreter.proofs.Laws.{walk-long, walk-fresh}
 use Rattle.rules.specs.Flags.{Settings}
 use Rattle.rules.specs.Record.{
   Record,
@@ -71,49 +71,20 @@ use Rattle.rules.specs.Record.{
   methodOr,
   typeContents,
   idContents,
-  idReading,
+  idAsRead,
   tableOf,
   nameAt,
   numbersAt,
 }
 use Rattle.rules.specs.Text.{functionName, stringText, unhandledScope}
-use Rattle.rules.specs.Rules.{
-  Task,
-  byItself,
-  functionOf,
-  idOf,
-  functionId,
-  memberId,
-  Rule,
-  inside,
-  unread,
-  marked,
-  result,
-  procedureResult,
-  returned,
-  methodArguments,
-  procedureArguments,
-  staticMark,
-  methodNamed,
-  procedureNamed,
-  functionText,
-  scopeText,
-  functionIdText,
-  memberIdText,
-  stringEntries,
-  idText,
-  idAlone,
-  afterRead,
-  sameIndex,
-  entryOf,
-  body,
-  rank,
-  walked,
-  ruled,
-}
+use Rattle.rules.specs.Task.{Task, byItself, functionOf, idOf, functionId, memberId, Rule, inside, unread, marked}
+use Rattle.rules.specs.Types.{result, procedureResult, returned, methodArguments, procedureArguments}
+use Rattle.rules.specs.Methods.{staticMark, methodNamed, procedureNamed}
+use Rattle.rules.specs.Ids.{functionText, scopeText, functionIdText, memberIdText, stringEntries, idText, idAlone}
+use Rattle.rules.specs.Opening.{afterRead, sameIndex, entryOf, body, rank, walked, ruled}
 use Rattle.rules.proofs.Rank.{ranked}
 use Rattle.pen.specs.declared.Pen.{Pen}
-use Rattle.pen.specs.Page.{Page, page, Wrote, say, step, _⨾_}
+use Rattle.pen.specs.Page.{Page, page, Wrote, writing, step, _⨾_}
 use Rattle.context.specs.declared.flags.Call.{Call}
 use Rattle.context.specs.declared.seen.Way.the-variants as way
 use Rattle.context.specs.declared.seen.TypeOpening.{TypeOpening}
@@ -121,8 +92,8 @@ use Rattle.context.specs.declared.seen.TypeOpening.the-variants as typeOpening
 use Rattle.context.specs.Context.{settingsOf, tableIn, keysOf, holding}
 use Rattle.context.specs.Opening.{OpensType}
 use Rattle.context.proofs.Opening.{walk-on, type-stopped, type-open}
-use Rattle.writers.specs.Writers.{markTrace}
-use Rattle.pieces.specs.Pieces.{staticText}
+use Rattle.leaf_writers.specs.Writers.{markTrace}
+use Rattle.leaf_writers.specs.Pieces.{staticText}
 use Rattle.emit.specs.Walking.{methodOf}
 use Rattle.emit.proofs.Laws.{marked-is, returned-is, in-turn}
 use Rattle.id_writers.specs.Ids.{further, otherText}
@@ -166,37 +137,37 @@ module _ (c : Settings) (t : Table) (h : Held) where
   ended before name list = seq (write before) (seq (write (functionName name)) (procedureArguments c list))
 
   pub end-hidden : (before name : List ℕ) (list : ℕ) (b : Bool) → b ≡ c .noArguments → b ≡ true
-      → say before ⨾ say (functionName name) ⨾ say [] ≡ ruled c t h (ended before name list)
+      → writing before ⨾ writing (functionName name) ⨾ writing [] ≡ ruled c t h (ended before name list)
   unfolding ruled exec procedureArguments _⨾_
   end-hidden before name list b e f = let k : c .noArguments ≡ true = cc in rw k
 
   pub end-shown : (before name : List ℕ) (list : ℕ) (b : Bool) → b ≡ c .noArguments → b ≡ false
-      → say before ⨾ say (functionName name) ⨾ say (bytes "(") ⨾ walked c t h (byItself list) ⨾ say (bytes ")") ≡ ruled c t h (ended before name list)
+      → writing before ⨾ writing (functionName name) ⨾ writing (bytes "(") ⨾ walked c t h (byItself list) ⨾ writing (bytes ")") ≡ ruled c t h (ended before name list)
   unfolding ruled exec procedureArguments _⨾_
   end-shown before name list b e f = let k : c .noArguments ≡ false = cc in rw k
 
-  static-is : (m : Method) → say (staticText c (m .this)) ≡ ruled c t h (staticMark c m)
+  static-is : (m : Method) → writing (staticText c (m .this)) ≡ ruled c t h (staticMark c m)
   unfolding ruled exec staticMark staticText
   static-is m = refl
 
   pub method-named : (m : Method) (name : List ℕ) (none : Bool) → none ≡ c .noReturn || m .constructor
-      → say (staticText c (m .this)) ⨾ ruled c t h (result c none (m .result)) ⨾ say [] ⨾ say (functionName name) ⨾ ruled c t h (methodArguments c m true)
+      → writing (staticText c (m .this)) ⨾ ruled c t h (result c none (m .result)) ⨾ writing [] ⨾ writing (functionName name) ⨾ ruled c t h (methodArguments c m true)
       ≡ ruled c t h (methodNamed c m (write []) name)
   unfolding ruled exec methodNamed staticMark staticText _⨾_
   method-named m name none e =
-      ap (λ (x : Trace Refusal). say (staticText c (m .this)) ⨾ x ⨾ say [] ⨾ say (functionName name) ⨾ ruled c t h (methodArguments c m true))
+      ap (λ (x : Trace Refusal). writing (staticText c (m .this)) ⨾ x ⨾ writing [] ⨾ writing (functionName name) ⨾ ruled c t h (methodArguments c m true))
       (returned-is c t h none (m .constructor) (m .result) e)
 
   pub member-named : (m : Method) (parent : ℕ) (name : List ℕ) (none : Bool) → none ≡ c .noReturn || m .constructor
-      → say (staticText c (m .this)) ⨾ ruled c t h (result c none (m .result)) ⨾ walked c t h (byItself parent) ⨾ say (bytes "::") ⨾ say (functionName name)
+      → writing (staticText c (m .this)) ⨾ ruled c t h (result c none (m .result)) ⨾ walked c t h (byItself parent) ⨾ writing (bytes "::") ⨾ writing (functionName name)
       ⨾ ruled c t h (methodArguments c m true)
       ≡ ruled c t h (methodNamed c m (seq (trace.call (byItself parent)) (write (bytes "::"))) name)
   unfolding ruled exec methodNamed staticMark staticText _⨾_
   member-named m parent name none e =
-      ap (λ (x : Trace Refusal). say (staticText c (m .this)) ⨾ x ⨾ walked c t h (byItself parent) ⨾ say (bytes "::") ⨾ say (functionName name) ⨾ ruled c t h (methodArguments c m true))
+      ap (λ (x : Trace Refusal). writing (staticText c (m .this)) ⨾ x ⨾ walked c t h (byItself parent) ⨾ writing (bytes "::") ⨾ writing (functionName name) ⨾ ruled c t h (methodArguments c m true))
       (returned-is c t h none (m .constructor) (m .result) e)
-      ∙ ap (λ (x : Trace Refusal). say (staticText c (m .this)) ⨾ ruled c t h (returned c (result c (m .constructor) (m .result))) ⨾ x)
-      (sym (in-turn (walked c t h (byItself parent)) (say (bytes "::")) (say (functionName name) ⨾ ruled c t h (methodArguments c m true))))
+      ∙ ap (λ (x : Trace Refusal). writing (staticText c (m .this)) ⨾ ruled c t h (returned c (result c (m .constructor) (m .result))) ⨾ x)
+      (sym (in-turn (walked c t h (byItself parent)) (writing (bytes "::")) (writing (functionName name) ⨾ ruled c t h (methodArguments c m true))))
 
   abbrev resulting : ℕ → Bool → Rule
   resulting r b = returned c (procedureResult c b r)
@@ -221,7 +192,7 @@ module _ (c : Settings) (t : Table) (h : Held) where
   unfolding ruled exec procedureNamed scopeText _⨾_
   scoped r list scope b name g =
       ap (λ (x : Trace Refusal). ruled c t h (resulting r b) ⨾ x)
-      (sym (in-turn (walked c t h (idOf scope)) (say (bytes "::")) (ruled c t h (seq (write (functionName name)) (procedureArguments c list)))))
+      (sym (in-turn (walked c t h (idOf scope)) (writing (bytes "::")) (ruled c t h (seq (write (functionName name)) (procedureArguments c list)))))
       ∙ rw (ne-eqb scope 0 g)
 
 module _ (s d : List ℕ) (call : Call) where
@@ -235,7 +206,7 @@ module _ (s d : List ℕ) (call : Call) where
   h = holding call []
 
   -- A function.
-  pub function-zero : (i : ℕ) (name : List ℕ) → i ≡ 0 → step ⨾ say (functionName name) ≡ walked c t h (functionOf i name)
+  pub function-zero : (i : ℕ) (name : List ℕ) → i ≡ 0 → step ⨾ writing (functionName name) ≡ walked c t h (functionOf i name)
   unfolding ruled exec entryOf body
   function-zero i name e = rw e (walk-on s d call [] (functionOf 0 name) (write (functionName name)) refl refl)
 
@@ -296,11 +267,11 @@ module _ (s d : List ℕ) (call : Call) where
   -- An id: it is read, then counted in its chain, and starts a list of its own, so what is open before it does not matter.
   module _ (o : List ℕ) (i : ℕ) (r : IdRead) (e : r ≡ readId d (call .ids) i) where
     id-good-read : (x : IdData) → r ≡ idRead.Good x → t .ids i ≡ good (idContents d x)
-    unfolding tableIn tableOf idReading
+    unfolding tableIn tableOf idAsRead
     id-good-read x f = let k : readId d (call .ids) i ≡ idRead.Good x = cc in rw k
 
     id-bad-read : (f : Refusal) → r ≡ idRead.Refused f → t .ids i ≡ bad f
-    unfolding tableIn tableOf idReading
+    unfolding tableIn tableOf idAsRead
     id-bad-read f g = let k : readId d (call .ids) i ≡ idRead.Refused f = cc in rw k
 
     pub id-bad : (f : Refusal) → r ≡ idRead.Refused f → step ⨾ markTrace f ≡ walked c t (holding call o) (idOf i)
@@ -347,7 +318,7 @@ module _ (s d : List ℕ) (call : Call) where
     unfolding functionText typeContents
     function-procedure name p e = rw e
 
-    pub function-other : (name : List ℕ) → OneOf noFunction (tagOf the-type x) → say name ≡ ruled c t k (functionText c name (typeContents s x))
+    pub function-other : (name : List ℕ) → OneOf noFunction (tagOf the-type x) → writing name ≡ ruled c t k (functionText c name (typeContents s x))
     unfolding ruled exec
     function-other name n = rw (function-none c s name x n)
 
@@ -428,7 +399,7 @@ module _ (s d : List ℕ) (call : Call) (x : IdData) where
   abbrev other : Trace Refusal
   other = ruled (settingsOf call) (tableIn s d call) (holding call []) (otherText (settingsOf call) (idContents d x))
 
-  pub other-function : (w : FunctionId) → x ≡ id.Function w → say [] ≡ other
+  pub other-function : (w : FunctionId) → x ≡ id.Function w → writing [] ≡ other
   unfolding ruled exec otherText idContents
   other-function w e = rw e
 
@@ -438,15 +409,15 @@ module _ (s d : List ℕ) (call : Call) (x : IdData) where
   other-member w e = rw e
 
   pub other-list : (w : Entries) → x ≡ id.StringList w
-      → say (bytes "\"") ⨾ ruled (settingsOf call) (tableIn s d call) (holding call []) (stringEntries (settingsOf call) false (numbersAt d (w .start) (w .count))) ⨾ say (bytes "\"")
+      → writing (bytes "\"") ⨾ ruled (settingsOf call) (tableIn s d call) (holding call []) (stringEntries (settingsOf call) false (numbersAt d (w .start) (w .count))) ⨾ writing (bytes "\"")
       ≡ other
   unfolding ruled exec otherText idText idContents _⨾_
   other-list w e = rw e
 
-  pub other-string : (w : StringId) (bs : List ℕ) → x ≡ id.String w → bs ≡ nameAt d (w .name) → say (stringText bs) ≡ other
+  pub other-string : (w : StringId) (bs : List ℕ) → x ≡ id.String w → bs ≡ nameAt d (w .name) → writing (stringText bs) ≡ other
   unfolding ruled exec otherText idText idContents
   other-string w bs e f = rw (e, f)
 
-  pub other-unhandled : (n : ℕ) → x ≡ id.Unhandled n → say (unhandledScope n) ≡ other
+  pub other-unhandled : (n : ℕ) → x ≡ id.Unhandled n → writing (unhandledScope n) ≡ other
   unfolding ruled exec otherText idText idContents
   other-unhandled n e = rw e

@@ -1,10 +1,11 @@
 -- What the functions here give and write, where the rules have no name for it.
 use Prim.Native.Nat.{_+_}
 use mathlib.Core.List.{[]}
-use Rattle.reading.specs.Trace.{write}
+use Rattle.interpreter.specs.Trace.{write}
 use Rattle.rules.specs.Flags.{Settings}
 use Rattle.rules.specs.Record.{IdRecord, function, memberFunction, strings, string, idKindOnly}
-use Rattle.rules.specs.Rules.{Rule, idText}
+use Rattle.rules.specs.Task.{Rule}
+use Rattle.rules.specs.Ids.{idText}
 use Rattle.context.specs.declared.flags.Call.{Call}
 
 -- A call whose chain of scopes has one id more.

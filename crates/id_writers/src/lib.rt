@@ -3,12 +3,15 @@ ghost use mathlib.Core.Path.{_≡_};
 ghost use mathlib.Core.Bool.{false};
 ghost use mathlib.Core.List.{[]};
 ghost use Prim.Native.Nat.{_+_, _<_};
-ghost use Rattle.reading.specs.Trace.{write, seq};
+ghost use Rattle.interpreter.specs.Trace.{write, seq};
 ghost use Rattle.rules.specs.Text.{functionName};
 ghost use Rattle.wire.specs.Text.{bytes};
-ghost use Rattle.reading.specs.Trace as trace;
+ghost use Rattle.interpreter.specs.Trace as trace;
 ghost use Rattle.rules.specs.Record.{idContents, nameAt, numbersAt};
-ghost use Rattle.rules.specs.Rules.{byItself, functionOf, idOf, memberId, procedureResult, returned, procedureArguments, methodNamed, procedureNamed, stringEntries};
+ghost use Rattle.rules.specs.Task.{byItself, functionOf, idOf, memberId};
+ghost use Rattle.rules.specs.Types.{procedureResult, returned, procedureArguments};
+ghost use Rattle.rules.specs.Methods.{methodNamed, procedureNamed};
+ghost use Rattle.rules.specs.Ids.{stringEntries};
 ghost use Rattle.pen.specs.Page.{page, Wrote};
 ghost use Rattle.context.specs.Context.{settingsOf};
 ghost use Rattle.emit.specs.Walking.{walking, ruling, methodOf};
@@ -31,19 +34,19 @@ use context::seen::open_type;
 use emit::emit_method_args;
 use emit::emit_return_type;
 use emit::emit_type_index;
-use parts::settings::no_arguments;
-use parts::settings::text_if;
+use leaf_writers::fragments::entry_at;
+use leaf_writers::fragments::hides_return;
+use leaf_writers::fragments::is_void;
+use leaf_writers::fragments::maybe_emit_static;
+use leaf_writers::marks::emit_mark;
+use leaf_writers::marks::unhandled_scope;
+use leaf_writers::names::emit_name_str;
+use leaf_writers::names::name_of;
+use leaf_writers::settings::no_arguments;
+use leaf_writers::settings::text_if;
+use leaf_writers::strings::emit_string;
 use pen::Pen;
-use pieces::entry_at;
-use pieces::hides_return;
-use pieces::is_void;
-use pieces::maybe_emit_static;
 use streams::refusal::Refusal;
-use writers::marks::mark;
-use writers::marks::unhandled_scope;
-use writers::names::emit_name_str;
-use writers::names::name_of;
-use writers::strings::emit_string;
 
 // One id further in the chain of scopes.
 fn deeper(call: Call) -> Call
@@ -379,6 +382,6 @@ pub fn emit_id(
                 TypeOpening::Stopped(q) => q,
             }
         }
-        IdRead::Refused(f) => mark(out, p, f),
+        IdRead::Refused(f) => emit_mark(out, p, f),
     }
 }

@@ -20,11 +20,11 @@ use Rattle.streams.specs.Refusal.{numberOf, detailOf}
 use Rattle.streams.proofs.refusal.Refusal.{the-type}
 use denote.Enum.Declared.{tagOf}
 use package.types.Run.{OneOf}
-use Rattle.reading.specs.Trace.{Mark, End, done, missing, refused, halted, unfinished, again, deep, long, Count, count, Trace, tr, prefix, then, asked, caught}
+use Rattle.interpreter.specs.Trace.{Note, End, done, missing, refused, halted, unfinished, again, deep, long, Count, count, Trace, tr, prefix, then, asked, caught}
 use Rattle.pen.specs.declared.Pen.{Pen}
 use Rattle.pen.specs.declared.Stop.{Stop}
 use Rattle.pen.specs.declared.Stop.the-variants.{No, Missing, Refused}
-use Rattle.pen.specs.Page.{Page, page, gone, put, putAt, unlessStopped, ink, more, ticked, tick, opening, stopOf, endAs, finish, run, Wrote, say, step, lastSince, resumed, goOn, Caught, idle, opened, last, _⨾_, ending, marking, bytesOf, refusedPen, missedPen, unreadPen, counted, unreadTrace}
+use Rattle.pen.specs.Page.{Page, page, gone, put, putAt, unlessStopped, ink, more, ticked, tick, ticks, stopOf, endAs, finish, pageAfter, Wrote, writing, step, lastSince, resumed, goOn, Caught, idle, opened, last, _⨾_, ending, marking, bytesOf, refusedPen, missedPen, unreadPen, counted, unreadTrace}
 
 -- one byte, by cases
 pub put-fits : (buf : List ℕ) (p : Pen) (b : ℕ) → p .stop ≡ No → p .at < p .limit
@@ -62,16 +62,16 @@ tick-halted : (g : Page) → Halted g → tick g ≡ g
 unfolding tick
 tick-halted g h = idle-keeps (g .pen .stop) _ _ h
 
-count-halted : (c : ℕ) (g : Page) → Halted g → opening g c ≡ g
-unfolding opening
+count-halted : (c : ℕ) (g : Page) → Halted g → ticks g c ≡ g
+unfolding ticks
 count-halted zero g h = refl
 count-halted (suc c) g h = rw (tick-halted g h) (count-halted c g h)
 
 finish-halted : (g : Page) (e : Stop) → Halted g → finish g e ≡ g
 finish-halted g e h = ap (page (g .buf)) (idle-keeps (g .pen .stop) _ _ h)
 
-pub run-halted : (g : Page) (t : Trace Refusal) → Halted g → run g t ≡ g
-unfolding run
+pub run-halted : (g : Page) (t : Trace Refusal) → Halted g → pageAfter g t ≡ g
+unfolding pageAfter
 run-halted g (tr bs e ns c) h = rw (ink-halted bs g h, count-halted (c .opened) g h) (finish-halted g (stopOf e) h)
 
 -- a text and another after it
@@ -118,13 +118,13 @@ unfolding ink
 tick-ink [] g = refl
 tick-ink (b ∷ bs) g = tick-ink bs (put g b) ∙ ap (λ h. ink h bs) (tick-put g b)
 
-count-ink : (c : ℕ) (g : Page) (bs : List ℕ) → opening (ink g bs) c ≡ ink (opening g c) bs
-unfolding opening
+count-ink : (c : ℕ) (g : Page) (bs : List ℕ) → ticks (ink g bs) c ≡ ink (ticks g c) bs
+unfolding ticks
 count-ink zero g bs = refl
-count-ink (suc c) g bs = ap (λ h. opening h c) (tick-ink bs g) ∙ count-ink c (tick g) bs
+count-ink (suc c) g bs = ap (λ h. ticks h c) (tick-ink bs g) ∙ count-ink c (tick g) bs
 
-count-count : (c : ℕ) (g : Page) (d : ℕ) → opening (opening g c) d ≡ opening g (c + d)
-unfolding opening
+count-count : (c : ℕ) (g : Page) (d : ℕ) → ticks (ticks g c) d ≡ ticks g (c + d)
+unfolding ticks
 count-count zero g d = rw zero-add
 count-count (suc c) g d = count-count c (tick g) d ∙ rw suc-add
 
@@ -136,17 +136,17 @@ finish-no-at (Refused f) b at l o lim = refl
 finish-no : (g : Page) → finish g No ≡ g
 finish-no g = finish-no-at (g .pen .stop) (g .buf) (g .pen .at) (g .pen .last) (g .pen .opened) (g .pen .limit)
 
-run-done : (g : Page) (bs : List ℕ) (ns : List Mark) (c : Count) → run g (tr bs done ns c) ≡ opening (ink g bs) (c .opened)
-unfolding run stopOf
-run-done g bs ns c = finish-no (opening (ink g bs) (c .opened))
+run-done : (g : Page) (bs : List ℕ) (ns : List Note) (c : Count) → pageAfter g (tr bs done ns c) ≡ ticks (ink g bs) (c .opened)
+unfolding pageAfter stopOf
+run-done g bs ns c = finish-no (ticks (ink g bs) (c .opened))
 
-pub run-say : (g : Page) (bs : List ℕ) → run g (say bs) ≡ ink g bs
-unfolding opening
+pub run-say : (g : Page) (bs : List ℕ) → pageAfter g (writing bs) ≡ ink g bs
+unfolding ticks
 run-say g bs = run-done g bs [] (count 0 0)
 
 -- what is written before a trace
-run-prefix : (g : Page) (bs : List ℕ) (ns : List Mark) (c : Count) (t : Trace Refusal) → run g (prefix bs ns c t) ≡ run (opening (ink g bs) (c .opened)) t
-unfolding run
+run-prefix : (g : Page) (bs : List ℕ) (ns : List Note) (c : Count) (t : Trace Refusal) → pageAfter g (prefix bs ns c t) ≡ pageAfter (ticks (ink g bs) (c .opened)) t
+unfolding pageAfter
 run-prefix g bs ns c (tr cs e ms d) = rw (← count-ink, ← count-count, ink-append)
 
 finish-halts-at : (x : Stop) (b : List ℕ) (at l o lim : ℕ) (e : Stop) → idle e ≡ true → Halted (finish (page b (record { at = at; last = l; opened = o; limit = lim; stop = x })) e)
@@ -159,24 +159,24 @@ finish-halts-at (Refused f) b at l o lim e h = refl
 finish-halts : (g : Page) (e : Stop) → idle e ≡ true → Halted (finish g e)
 finish-halts g e h = finish-halts-at (g .pen .stop) (g .buf) (g .pen .at) (g .pen .last) (g .pen .opened) (g .pen .limit) e h
 
-run-stays : (g : Page) (bs : List ℕ) (e : End Refusal) (ns : List Mark) (c : Count) (u : Trace Refusal) → idle (stopOf e) ≡ true → run (run g (tr bs e ns c)) u ≡ run g (tr bs e ns c)
-unfolding run
-run-stays g bs e ns c u h = run-halted _ u (finish-halts (opening (ink g bs) (c .opened)) (stopOf e) h)
+run-stays : (g : Page) (bs : List ℕ) (e : End Refusal) (ns : List Note) (c : Count) (u : Trace Refusal) → idle (stopOf e) ≡ true → pageAfter (pageAfter g (tr bs e ns c)) u ≡ pageAfter g (tr bs e ns c)
+unfolding pageAfter
+run-stays g bs e ns c u h = run-halted _ u (finish-halts (ticks (ink g bs) (c .opened)) (stopOf e) h)
 
 idle-refused : (f : Refusal) → idle (stopOf (refused f)) ≡ true
 unfolding stopOf
 idle-refused f = refl
 
-idle-halted : (x : Mark) → idle (stopOf (halted x)) ≡ true
+idle-halted : (x : Note) → idle (stopOf (halted x)) ≡ true
 unfolding stopOf
 idle-halted (again i) = refl
 idle-halted (deep i) = refl
 idle-halted (long i) = refl
 
 -- a trace and what follows it
-pub run-then : (g : Page) (s : Trace Refusal) (k : List ℕ → Trace Refusal) → run (run g s) (k (bytesOf s)) ≡ run g (then s k)
+pub run-then : (g : Page) (s : Trace Refusal) (k : List ℕ → Trace Refusal) → pageAfter (pageAfter g s) (k (bytesOf s)) ≡ pageAfter g (then s k)
 unfolding stopOf
-run-then g (tr bs done ns c) k = ap (λ h. run h (k bs)) (run-done g bs ns c) ∙ sym (run-prefix g bs ns c (k bs))
+run-then g (tr bs done ns c) k = ap (λ h. pageAfter h (k bs)) (run-done g bs ns c) ∙ sym (run-prefix g bs ns c (k bs))
 run-then g (tr bs (missing i) ns c) k = run-stays g bs (missing i) ns c (k bs) refl
 run-then g (tr bs (refused f) ns c) k = run-stays g bs (refused f) ns c (k bs) (idle-refused f)
 run-then g (tr bs (halted x) ns c) k = run-stays g bs (halted x) ns c (k bs) (idle-halted x)
@@ -195,10 +195,10 @@ pub wrote-by : {g h : Page} {t u : Trace Refusal} → Wrote g t h → t ≡ u �
 wrote-by e f = wrote-as f e
 
 -- nothing is written
-pub wrote-none : {g : Page} → Wrote g (say []) g
+pub wrote-none : {g : Page} → Wrote g (writing []) g
 wrote-none {g} = record { is = sym (run-say g [] ∙ ink-nil g) }
 
-pub wrote-same : {g : Page} {u : Trace Refusal} → say [] ≡ u → Wrote g u g
+pub wrote-same : {g : Page} {u : Trace Refusal} → writing [] ≡ u → Wrote g u g
 wrote-same {g} {u} e = wrote-as e wrote-none
 
 -- a stopped pen writes nothing, whatever it is asked
@@ -211,16 +211,16 @@ unfolding refusedPen
 finish-refused b p f = refl
 
 pub wrote-stop : (b : List ℕ) (p q : Pen) (e : End Refusal) (n : ℕ) (f : Refusal) → stopOf e ≡ Refused f → q ≡ refusedPen p f → Wrote (page b p) (tr [] e [] (count 0 n)) (page b q)
-unfolding run ink opening
+unfolding pageAfter ink ticks
 wrote-stop b p q e n f h k = record { is = rw (h, k) (finish-refused b p f) }
 
 pub wrote-missing : (b : List ℕ) (p q : Pen) (i : ℕ) → page b q ≡ finish (page b p) (Missing i) → Wrote (page b p) (tr [] (missing i) [] (count 0 0)) (page b q)
-unfolding run ink opening stopOf
+unfolding pageAfter ink ticks stopOf
 wrote-missing b p q i e = record { is = e }
 
 -- taking up an index without opening it changes nothing
 pub wrote-step : {g : Page} → Wrote g step g
-unfolding ink opening step
+unfolding ink ticks step
 wrote-step {g} = record { is = sym (run-done g [] [] (count 0 1)) }
 
 -- a count that is full stays
@@ -235,7 +235,7 @@ pub counted-full : (p : Pen) → p .stop ≡ No → 18446744073709551615 ≤ p .
 counted-full p e h = counted-full-at (p .stop) (p .at) (p .last) (p .opened) (p .limit) e h
 
 wrote-tick : (g h : Page) → h ≡ tick g → Wrote g opened h
-unfolding ink opening opened
+unfolding ink ticks opened
 wrote-tick g h e = record { is = e ∙ sym (run-done g [] [] (count 1 1)) }
 
 counted-page : (x : Stop) (b : List ℕ) (p : Pen) → page b (unlessStopped x (ticked p) p) ≡ unlessStopped x (page b (ticked p)) (page b p)
@@ -321,8 +321,8 @@ ends-tick-at No b at l o lim start x h = h
 ends-tick-at (Missing i) b at l o lim start x h = h
 ends-tick-at (Refused f) b at l o lim start x h = h
 
-ends-count : (c : ℕ) (g : Page) (start x : ℕ) → Ended g start x → Ended (opening g c) start x
-unfolding opening
+ends-count : (c : ℕ) (g : Page) (start x : ℕ) → Ended g start x → Ended (ticks g c) start x
+unfolding ticks
 ends-count zero g start x h = h
 ends-count (suc c) g start x h = ends-count c (tick g) start x (ends-tick-at (g .pen .stop) (g .buf) (g .pen .at) (g .pen .last) (g .pen .opened) (g .pen .limit) start x h)
 
@@ -338,16 +338,16 @@ unfolding Ended Lasts
 lasts g start x (inl h) = inl h
 lasts g start x (inr h) = inr (h .0)
 
-ends-done : (g : Page) (bs : List ℕ) (ns : List Mark) (c : Count) → Lasts (run g (tr bs done ns c)) (g .pen .at) (last 0 bs)
-ends-done g bs ns c = rw (run-done g bs ns c) (lasts (opening (ink g bs) (c .opened)) (g .pen .at) (last 0 bs) (ends-count (c .opened) (ink g bs) (g .pen .at) (last 0 bs) (ends-ink bs g (g .pen .at) 0 (fresh g))))
+ends-done : (g : Page) (bs : List ℕ) (ns : List Note) (c : Count) → Lasts (pageAfter g (tr bs done ns c)) (g .pen .at) (last 0 bs)
+ends-done g bs ns c = rw (run-done g bs ns c) (lasts (ticks (ink g bs) (c .opened)) (g .pen .at) (last 0 bs) (ends-count (c .opened) (ink g bs) (g .pen .at) (last 0 bs) (ends-ink bs g (g .pen .at) 0 (fresh g))))
 
-ends-run : (g : Page) (t : Trace Refusal) → Lasts (run g t) (g .pen .at) (last 0 (bytesOf t))
-unfolding run Lasts stopOf
+ends-run : (g : Page) (t : Trace Refusal) → Lasts (pageAfter g t) (g .pen .at) (last 0 (bytesOf t))
+unfolding pageAfter Lasts stopOf
 ends-run g (tr bs done ns c) = ends-done g bs ns c
-ends-run g (tr bs (missing i) ns c) = inl (finish-halts (opening (ink g bs) (c .opened)) (Missing i) refl)
-ends-run g (tr bs (refused f) ns c) = inl (finish-halts (opening (ink g bs) (c .opened)) (stopOf (refused f)) (idle-refused f))
-ends-run g (tr bs (halted x) ns c) = inl (finish-halts (opening (ink g bs) (c .opened)) (stopOf (halted x)) (idle-halted x))
-ends-run g (tr bs unfinished ns c) = inl (finish-halts (opening (ink g bs) (c .opened)) (stopOf unfinished) refl)
+ends-run g (tr bs (missing i) ns c) = inl (finish-halts (ticks (ink g bs) (c .opened)) (Missing i) refl)
+ends-run g (tr bs (refused f) ns c) = inl (finish-halts (ticks (ink g bs) (c .opened)) (stopOf (refused f)) (idle-refused f))
+ends-run g (tr bs (halted x) ns c) = inl (finish-halts (ticks (ink g bs) (c .opened)) (stopOf (halted x)) (idle-halted x))
+ends-run g (tr bs unfinished ns c) = inl (finish-halts (ticks (ink g bs) (c .opened)) (stopOf unfinished) refl)
 
 -- a writing that goes by the last byte of the one before it
 pub wrote-after : {g h k : Page} {t : Trace Refusal} (f : ℕ → Trace Refusal) (start : ℕ) → start ≡ g .pen .at → Wrote g t h → Wrote h (f (lastSince (h .pen) start)) k
@@ -355,10 +355,10 @@ pub wrote-after : {g h k : Page} {t : Trace Refusal} (f : ℕ → Trace Refusal)
 unfolding Lasts
 wrote-after {g} {h} {k} {t} f start s e w = record { is = go (ends-run g t) ∙ run-then g t (λ bs. f (last 0 bs)) }
   where
-    from : k ≡ run (run g t) (f (lastSince (run g t .pen) (g .pen .at)))
+    from : k ≡ pageAfter (pageAfter g t) (f (lastSince (pageAfter g t .pen) (g .pen .at)))
     from = rw (← (e .is), ← s) (w .is)
 
-    go : Lasts (run g t) (g .pen .at) (last 0 (bytesOf t)) → k ≡ run (run g t) (f (last 0 (bytesOf t)))
+    go : Lasts (pageAfter g t) (g .pen .at) (last 0 (bytesOf t)) → k ≡ pageAfter (pageAfter g t) (f (last 0 (bytesOf t)))
     go (inl x) = from ∙ run-halted _ _ x ∙ sym (run-halted _ _ x)
     go (inr x) = rw x at from
 
@@ -387,8 +387,8 @@ kept-tick-at No b at l o lim h = inl refl
 kept-tick-at (Missing i) b at l o lim h = h
 kept-tick-at (Refused f) b at l o lim h = h
 
-kept-count : (c : ℕ) (g : Page) → Kept g → Kept (opening g c)
-unfolding opening
+kept-count : (c : ℕ) (g : Page) → Kept g → Kept (ticks g c)
+unfolding ticks
 kept-count zero g h = h
 kept-count (suc c) g h = kept-count c (tick g) (kept-tick-at (g .pen .stop) (g .buf) (g .pen .at) (g .pen .last) (g .pen .opened) (g .pen .limit) h)
 
@@ -400,7 +400,7 @@ caught-kept-at (Missing i) g u e (inr h) = absurd (let z : _≡_ {A = ℕ} 0 1 =
 caught-kept-at (Refused f) g u e h = refl
 
 caught-missing-at : (x : Stop) (b : List ℕ) (at l o lim i : ℕ) (u : ℕ → Trace Refusal) → let g = page b (record { at = at; last = l; opened = o; limit = lim; stop = x }) in Kept g
-    → goOn (finish g (Missing i) .pen .stop) u (finish g (Missing i)) ≡ run g (u i)
+    → goOn (finish g (Missing i) .pen .stop) u (finish g (Missing i)) ≡ pageAfter g (u i)
 unfolding Kept
 caught-missing-at No b at l o lim i u h = refl
 caught-missing-at (Missing j) b at l o lim i u (inl h) = absurd (let z : _≡_ {A = ℕ} 0 1 = cc in omega arith)
@@ -415,28 +415,28 @@ caught-stop-at (Missing j) y b at l o lim u (inl h) f e = absurd (let z : _≡_ 
 caught-stop-at (Missing j) y b at l o lim u (inr h) f e = absurd (let z : _≡_ {A = ℕ} 0 1 = cc in omega arith)
 caught-stop-at (Refused k) y b at l o lim u h f e = refl
 
-halted-as : (x : Mark) → (f : Refusal) × (stopOf (halted x) ≡ Refused f)
+halted-as : (x : Note) → (f : Refusal) × (stopOf (halted x) ≡ Refused f)
 unfolding stopOf
 halted-as (again i) = (CircularTypeDefinition i, refl)
 halted-as (deep i) = (TooManyOpen i, refl)
 halted-as (long i) = (ChainTooLong i, refl)
 
 module _ (u : ℕ → Trace Refusal) (g : Page) (alive : g .pen .stop ≡ No) where
-  caught-ended : (bs : List ℕ) (e : End Refusal) (ns : List Mark) (c : Count) (f : Refusal) → stopOf e ≡ Refused f → goOn (run g (tr bs e ns c) .pen .stop) u (run g (tr bs e ns c)) ≡ run g (tr bs e ns c)
-  unfolding run Kept
+  caught-ended : (bs : List ℕ) (e : End Refusal) (ns : List Note) (c : Count) (f : Refusal) → stopOf e ≡ Refused f → goOn (pageAfter g (tr bs e ns c) .pen .stop) u (pageAfter g (tr bs e ns c)) ≡ pageAfter g (tr bs e ns c)
+  unfolding pageAfter Kept
   caught-ended bs e ns c f n =
-      let h = opening (ink g bs) (c .opened) in
+      let h = ticks (ink g bs) (c .opened) in
       caught-stop-at (h .pen .stop) (stopOf e) (h .buf) (h .pen .at) (h .pen .last) (h .pen .opened) (h .pen .limit) u (kept-count (c .opened) (ink g bs) (kept-ink bs g (inl alive))) f n
 
-  missed : (bs : List ℕ) (i : ℕ) (ns : List Mark) (c : Count) → goOn (run g (tr bs (missing i) ns c) .pen .stop) u (run g (tr bs (missing i) ns c)) ≡ run g (prefix bs ns c (u i))
-  unfolding run stopOf Kept
+  missed : (bs : List ℕ) (i : ℕ) (ns : List Note) (c : Count) → goOn (pageAfter g (tr bs (missing i) ns c) .pen .stop) u (pageAfter g (tr bs (missing i) ns c)) ≡ pageAfter g (prefix bs ns c (u i))
+  unfolding pageAfter stopOf Kept
   missed bs i ns c =
-      let h = opening (ink g bs) (c .opened) in
+      let h = ticks (ink g bs) (c .opened) in
       caught-missing-at (h .pen .stop) (h .buf) (h .pen .at) (h .pen .last) (h .pen .opened) (h .pen .limit) i u (kept-count (c .opened) (ink g bs) (kept-ink bs g (inl alive))) ∙ sym (run-prefix g bs ns c (u i))
 
-  run-caught : (s : Trace Refusal) → goOn (run g s .pen .stop) u (run g s) ≡ run g (caught s u)
+  run-caught : (s : Trace Refusal) → goOn (pageAfter g s .pen .stop) u (pageAfter g s) ≡ pageAfter g (caught s u)
   unfolding stopOf Kept
-  run-caught (tr bs done ns c) = caught-kept-at _ (run g (tr bs done ns c)) u refl (rw (run-done g bs ns c) (kept-count (c .opened) (ink g bs) (kept-ink bs g (inl alive))))
+  run-caught (tr bs done ns c) = caught-kept-at _ (pageAfter g (tr bs done ns c)) u refl (rw (run-done g bs ns c) (kept-count (c .opened) (ink g bs) (kept-ink bs g (inl alive))))
   run-caught (tr bs (missing i) ns c) = missed bs i ns c
   run-caught (tr bs (refused f) ns c) = caught-ended bs (refused f) ns c f refl
   run-caught (tr bs (halted x) ns c) = caught-ended bs (halted x) ns c (halted-as x .0) (halted-as x .1)
@@ -470,19 +470,19 @@ tick-buf-at No b at l o lim = refl
 tick-buf-at (Missing i) b at l o lim = refl
 tick-buf-at (Refused f) b at l o lim = refl
 
-count-buf : (c : ℕ) (g : Page) → opening g c .buf ≡ g .buf
-unfolding opening
+count-buf : (c : ℕ) (g : Page) → ticks g c .buf ≡ g .buf
+unfolding ticks
 count-buf zero g = refl
 count-buf (suc c) g = count-buf c (tick g) ∙ tick-buf-at (g .pen .stop) (g .buf) (g .pen .at) (g .pen .last) (g .pen .opened) (g .pen .limit)
 
-run-length : (g : Page) (t : Trace Refusal) → length (run g t .buf) ≡ length (g .buf)
-unfolding run
+run-length : (g : Page) (t : Trace Refusal) → length (pageAfter g t .buf) ≡ length (g .buf)
+unfolding pageAfter
 run-length g (tr bs e ns c) = ap length (count-buf (c .opened) (ink g bs)) ∙ ink-length bs g
 
 pub wrote-length : {g h : Page} {t : Trace Refusal} → Wrote g t h → length (h .buf) ≡ length (g .buf)
 wrote-length {g} {h} {t} w = ap (λ (x : Page). length (x .buf)) (w .is) ∙ run-length g t
 
-pub wrote-byte : {g h : Page} {b : ℕ} → h ≡ put g b → Wrote g (say (b ∷ [])) h
+pub wrote-byte : {g h : Page} {b : ℕ} → h ≡ put g b → Wrote g (writing (b ∷ [])) h
 wrote-byte {g} {h} {b} e = record { is = e ∙ sym (run-say g (b ∷ []) ∙ ink-one g b) }
 
 -- what catches, by cases
@@ -500,21 +500,21 @@ pub _▸_ : {g h k : Page} {t u : Trace Refusal} → Wrote g t h → Wrote h u k
 unfolding _⨾_
 e ▸ f = e ▹ f
 
-pub wrote-ending : {g h k : Page} {t : Trace Refusal} (f : ℕ → List ℕ) (start : ℕ) → start ≡ g .pen .at → Wrote g t h → Wrote h (say (f (lastSince (h .pen) start))) k → Wrote g (ending t f) k
+pub wrote-ending : {g h k : Page} {t : Trace Refusal} (f : ℕ → List ℕ) (start : ℕ) → start ≡ g .pen .at → Wrote g t h → Wrote h (writing (f (lastSince (h .pen) start))) k → Wrote g (ending t f) k
 unfolding ending
-wrote-ending f start s e w = wrote-after (λ b. say (f b)) start s e w
+wrote-ending f start s e w = wrote-after (λ b. writing (f b)) start s e w
 
 pub wrote-marking : {g h k : Page} {t : Trace Refusal} {u : ℕ → Trace Refusal} → idle (g .pen .stop) ≡ false → Wrote g t h → Caught h u k → Wrote g (marking t u) k
 unfolding marking
 wrote-marking {g} a e f = wrote-caught (alive (g .pen .stop) a) e f
 
 -- A whole trace, from the start of a buffer.
-unfoldable pub ticks : ℕ → ℕ → ℕ
-ticks o zero = o
-ticks o (suc c) = ticks (more o) c
+unfoldable pub countAfter : ℕ → ℕ → ℕ
+countAfter o zero = o
+countAfter o (suc c) = countAfter (more o) c
 
-count-is : (c : ℕ) (b : List ℕ) (at l o lim : ℕ) → opening (page b (record { at = at; last = l; opened = o; limit = lim; stop = No })) c ≡ page b (record { at = at; last = l; opened = ticks o c; limit = lim; stop = No })
-unfolding opening tick ticks
+count-is : (c : ℕ) (b : List ℕ) (at l o lim : ℕ) → ticks (page b (record { at = at; last = l; opened = o; limit = lim; stop = No })) c ≡ page b (record { at = at; last = l; opened = countAfter o c; limit = lim; stop = No })
+unfolding ticks tick countAfter
 count-is zero b at l o lim = refl
 count-is (suc c) b at l o lim = count-is c b at l (more o) lim
 
@@ -540,7 +540,7 @@ ink-over (b ∷ bs) buf at l o lim h k = by (decLt at lim) (λ d. ink-over bs (s
 pub record Ran (buf : List ℕ) (limit : ℕ) (bs : List ℕ) (c : ℕ) (b : List ℕ) (q : Pen) : Type 0 where
   pub at : q .at ≡ length bs
   pub buffer : b ≡ sets buf 0 bs
-  pub opened : q .opened ≡ ticks 0 c
+  pub opened : q .opened ≡ countAfter 0 c
   pub room : length bs ≤ limit
 
 end-stop : (p : Pen) (x : Stop) → p .stop ≡ No → endAs p x .stop ≡ x
@@ -548,10 +548,10 @@ end-stop p No e = e
 end-stop p (Missing i) e = refl
 end-stop p (Refused f) e = refl
 
-module _ (buf : List ℕ) (limit : ℕ) (bs : List ℕ) (e : End Refusal) (ns : List Mark) (c : Count) (b : List ℕ) (q : Pen) where
-  ran : length bs ≤ limit → run (page buf (record { at = 0; last = 0; opened = 0; limit = limit; stop = No })) (tr bs e ns c)
-      ≡ page (sets buf 0 bs) (endAs (record { at = 0 + length bs; last = last 0 bs; opened = ticks 0 (c .opened); limit = limit; stop = No }) (stopOf e))
-  unfolding run
+module _ (buf : List ℕ) (limit : ℕ) (bs : List ℕ) (e : End Refusal) (ns : List Note) (c : Count) (b : List ℕ) (q : Pen) where
+  ran : length bs ≤ limit → pageAfter (page buf (record { at = 0; last = 0; opened = 0; limit = limit; stop = No })) (tr bs e ns c)
+      ≡ page (sets buf 0 bs) (endAs (record { at = 0 + length bs; last = last 0 bs; opened = countAfter 0 (c .opened); limit = limit; stop = No }) (stopOf e))
+  unfolding pageAfter
   ran h = rw (ink-fits bs buf 0 0 0 limit (omega arith), count-is (c .opened) (sets buf 0 bs) (0 + length bs) (last 0 bs) 0 limit) refl
 
   pub ran-fits : length bs ≤ limit → Wrote (page buf (record { at = 0; last = 0; opened = 0; limit = limit; stop = No })) (tr bs e ns c) (page b q)
@@ -559,7 +559,7 @@ module _ (buf : List ℕ) (limit : ℕ) (bs : List ℕ) (e : End Refusal) (ns : 
   ran-fits h w = (stops, λ n. whole (stopOf e) refl (sym stops ∙ n))
     where
       p : Pen
-      p = record { at = 0 + length bs; last = last 0 bs; opened = ticks 0 (c .opened); limit = limit; stop = No }
+      p = record { at = 0 + length bs; last = last 0 bs; opened = countAfter 0 (c .opened); limit = limit; stop = No }
 
       is : page b q ≡ page (sets buf 0 bs) (endAs p (stopOf e))
       is = w .is ∙ ran h
@@ -573,7 +573,7 @@ module _ (buf : List ℕ) (limit : ℕ) (bs : List ℕ) (e : End Refusal) (ns : 
           record { at = ap (λ (g : Page). g .pen .at) k ∙ zero-add (length bs); buffer = ap (λ (g : Page). g .buf) k; opened = ap (λ (g : Page). g .pen .opened) k; room = h }
 
   pub ran-over : limit < length bs → Wrote (page buf (record { at = 0; last = 0; opened = 0; limit = limit; stop = No })) (tr bs e ns c) (page b q) → q .stop ≡ Refused NoRoom
-  unfolding run
+  unfolding pageAfter
   ran-over h w =
       let g = page buf (record { at = 0; last = 0; opened = 0; limit = limit; stop = No }) in
       let s : ink g bs .pen .stop ≡ Refused NoRoom = ink-over bs buf 0 0 0 limit (omega arith) (omega arith) in

@@ -9,7 +9,7 @@ use Rattle.wire.specs.Field.{pick}
 use Rattle.streams.specs.Refusal.{numberOf, detailOf}
 use Rattle.streams.specs.declared.refusal.Refusal.{Refusal}
 use Rattle.streams.specs.declared.refusal.Refusal.the-variants.{CircularTypeDefinition, TooManyOpen, ChainTooLong, NoRoom}
-use Rattle.reading.specs.Trace.{Mark, again, deep, long, End, done, missing, refused, halted, unfinished, Count, count, Trace, tr, then, caught}
+use Rattle.interpreter.specs.Trace.{Note, again, deep, long, End, done, missing, refused, halted, unfinished, Count, count, Trace, tr, then, caught}
 use Rattle.pen.specs.declared.Pen.{Pen}
 use Rattle.pen.specs.declared.Stop.{Stop}
 use Rattle.pen.specs.declared.Stop.the-variants.{No, Missing, Refused}
@@ -60,9 +60,9 @@ counted p = unlessStopped (p .stop) (ticked p) p
 unfoldable pub tick : Page → Page
 tick g = unlessStopped (g .pen .stop) (page (g .buf) (ticked (g .pen))) g
 
-unfoldable pub opening : Page → ℕ → Page
-opening g zero = g
-opening g (suc c) = opening (tick g) c
+unfoldable pub ticks : Page → ℕ → Page
+ticks g zero = g
+ticks g (suc c) = ticks (tick g) c
 
 -- How a pen stops at each end: 12, 13 and 14 for what the walk was halted at.
 unfoldable pub stopOf : End Refusal → Stop
@@ -83,16 +83,16 @@ endAs p (Refused f) = gone (p .limit) f
 abbrev pub finish : Page → Stop → Page
 finish g e = page (g .buf) (unlessStopped (g .pen .stop) (endAs (g .pen) e) (g .pen))
 
-unfoldable pub run : Page → Trace Refusal → Page
-run g (tr bs e ns c) = finish (opening (ink g bs) (c .opened)) (stopOf e)
+unfoldable pub pageAfter : Page → Trace Refusal → Page
+pageAfter g (tr bs e ns c) = finish (ticks (ink g bs) (c .opened)) (stopOf e)
 
 -- the page h is what the trace t makes of the page g
 pub record Wrote (g : Page) (t : Trace Refusal) (h : Page) : Type 0 where
-  pub is : h ≡ run g t
+  pub is : h ≡ pageAfter g t
 
 -- A trace that writes bytes, and one that takes up an index without opening it.
-abbrev pub say : List ℕ → Trace Refusal
-say bs = tr bs done [] (count 0 0)
+abbrev pub writing : List ℕ → Trace Refusal
+writing bs = tr bs done [] (count 0 0)
 
 unfoldable pub step : Trace Refusal
 step = tr [] done [] (count 0 1)
@@ -107,7 +107,7 @@ resumed p = record { at = p .at; last = p .last; opened = p .opened; limit = p .
 -- where an index was missing, u goes on
 abbrev pub goOn : Stop → (ℕ → Trace Refusal) → Page → Page
 goOn No u g = g
-goOn (Missing i) u g = run (page (g .buf) (resumed (g .pen))) (u i)
+goOn (Missing i) u g = pageAfter (page (g .buf) (resumed (g .pen))) (u i)
 goOn (Refused f) u g = g
 
 pub record Caught (g : Page) (u : ℕ → Trace Refusal) (h : Page) : Type 0 where

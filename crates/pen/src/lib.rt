@@ -3,8 +3,8 @@
 ghost use mathlib.Core.Path.{_≡_};
 ghost use mathlib.Core.List.{[]};
 ghost use lib.ListN.{set};
-ghost use Rattle.reading.specs.Trace.{tr, refused, halted, long, count};
-ghost use Rattle.pen.specs.Page.{page, put, Wrote, lastSince, resumed, refusedPen, missedPen, unreadPen, counted, say, idle, unreadTrace};
+ghost use Rattle.interpreter.specs.Trace.{tr, refused, halted, long, count};
+ghost use Rattle.pen.specs.Page.{page, put, Wrote, lastSince, resumed, refusedPen, missedPen, unreadPen, counted, writing, idle, unreadTrace};
 use streams::refusal::Refusal;
 
 pub enum Stop {
@@ -71,7 +71,7 @@ pub fn byte(out: &mut [u8], p: Pen, b: u8) -> Pen
 
 // The bytes of s.
 pub fn text(out: &mut [u8], p: Pen, s: &[u8]) -> Pen
-    ensures { λ r. ⌜ Wrote (page (now (out .entry)) p) (say (now (s .entry))) (page (now (out .exit)) r) ⌝ }
+    ensures { λ r. ⌜ Wrote (page (now (out .entry)) p) (writing (now (s .entry))) (page (now (out .exit)) r) ⌝ }
 {
     let mut q = p;
     let mut i = 0;

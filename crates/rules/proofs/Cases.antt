@@ -18,18 +18,24 @@ use Rattle.streams.specs.Stream.{indexes, header, behind, passed, tiled, checke
 use Rattle.primitives.specs.Primitive.{primitives, firstOf}
 use Rattle.codeview.specs.Record.{bit, names, entries, pointerMode, containing, memberClass, modifierOf, pointerOf, procedureOf, memberFunctionOf, argumentListOf, enumerateOf, arrayOf, classOf, unionOf, enumerationOf, typeOf}
 use Rattle.codeview.specs.Read.{primitiveOf, readType}
-use Rattle.reading.specs.Trace.{exec, isOpen, opening, run, need, walk, held}
+use Rattle.interpreter.specs.Trace.{exec, isOpen, opening, run, need, walk, held}
 use Rattle.rules.specs.Flags.{settings, sized, flagged}
-use Rattle.rules.specs.Record.{Attributes, Method, class, Record, pointer, modifier, procedure, method, arguments, array, primitive, named, IdRecord, function, Read, good, bad, Table, nameAt, numbersAt, matchName, typeContents, typeReading, tableOf}
+use Rattle.rules.specs.Record.{Attributes, Method, class, Record, pointer, modifier, procedure, method, arguments, array, primitive, named, IdRecord, function, Read, good, bad, Table, nameAt, numbersAt, matchName, typeContents, typeAsRead, tableOf}
 use Rattle.rules.specs.Text.{digit, numeral, hex, decimal, missingMark, unimplementedMark, functionName, primitiveName, primitiveSize, primitiveText, worded, classText, overPointee, sign, levels, endsSigned, bracket, brackets, sameBytes}
-use Rattle.rules.specs.Rules.{Task, byItself, sizeOf, idOf, listed, comma, scopeText, functionIdText, idText, idAlone, unread, marked, valueOf, fullLayout, fullNamed, fullOr, result, procedureResult, returned, methodArguments, procedureArguments, namedText, typeText, alone, pointed, aimed, aimedAgain, modifiedText, methodText, thisPointer, methodList, baseText, elementText, fullSize, layoutSize, namedSize, recordSize, sizeStep, staticMark, methodNamed, procedureNamed, functionText, afterRead, sameIndex, rank, entryOf, body, walked, plainly}
-use Rattle.rules.specs.Rules as rule
+use Rattle.rules.specs.Task.{Task, byItself, sizeOf, idOf, separated, unread, marked, valueOf}
+use Rattle.rules.specs.Types.{comma, result, procedureResult, returned, methodArguments, procedureArguments, namedText, typeText, alone}
+use Rattle.rules.specs.Pointers.{pointed, aimed, aimedAgain, modifiedText}
+use Rattle.rules.specs.Methods.{methodText, thisPointer, methodList, staticMark, methodNamed, procedureNamed}
+use Rattle.rules.specs.Arrays.{baseText, elementText}
+use Rattle.rules.specs.Sizes.{fullLayout, fullNamed, fullOr, fullSize, layoutSize, namedSize, recordSize, sizeStep}
+use Rattle.rules.specs.Ids.{scopeText, functionIdText, idText, idAlone, functionText}
+use Rattle.rules.specs.Opening.{afterRead, sameIndex, rank, entryOf, body, walked, plainly}
 use Rattle.rules.specs.Call.{Outcome, text, stopped, answer, within, whole, overTypes, functionReading, typeReading as typeReading₀, sizeReading, sizeOutcome, sizeAnswer, Size, unsized}
 use Rattle.rules.specs.Call as calls
 
 -- A line `unfolding computing` opens every definition that a case computes with.
 unfoldable computing : Unit {0}
-unfolding scopeText functionIdText idText idAlone number field sizeWidth valueWidth widthOf payload leaf zeroFrom nameEnd name indexes header behind passed tiled checked recordAt walkFrom lookUp part primitives firstOf bit names entries pointerMode containing memberClass modifierOf pointerOf procedureOf memberFunctionOf argumentListOf enumerateOf arrayOf classOf unionOf enumerationOf typeOf primitiveOf readType exec isOpen opening run need walk settings sized flagged nameAt numbersAt matchName typeContents typeReading tableOf digit numeral hex decimal missingMark unimplementedMark functionName primitiveName primitiveSize primitiveText worded classText overPointee sign levels endsSigned bracket brackets sameBytes unread marked valueOf fullLayout fullNamed fullOr result procedureResult returned methodArguments procedureArguments listed comma namedText typeText alone pointed aimed aimedAgain modifiedText methodText thisPointer methodList baseText elementText fullSize layoutSize namedSize recordSize sizeStep staticMark methodNamed procedureNamed functionText afterRead sameIndex rank entryOf body walked answer within whole overTypes functionReading typeReading₀ sizeReading sizeOutcome sizeAnswer calls.functionOutcome calls.typeOutcome
+unfolding scopeText functionIdText idText idAlone number field sizeWidth valueWidth widthOf payload leaf zeroFrom nameEnd name indexes header behind passed tiled checked recordAt walkFrom lookUp part primitives firstOf bit names entries pointerMode containing memberClass modifierOf pointerOf procedureOf memberFunctionOf argumentListOf enumerateOf arrayOf classOf unionOf enumerationOf typeOf primitiveOf readType exec isOpen opening run need walk settings sized flagged nameAt numbersAt matchName typeContents typeAsRead tableOf digit numeral hex decimal missingMark unimplementedMark functionName primitiveName primitiveSize primitiveText worded classText overPointee sign levels endsSigned bracket brackets sameBytes unread marked valueOf fullLayout fullNamed fullOr result procedureResult returned methodArguments procedureArguments separated comma namedText typeText alone pointed aimed aimedAgain modifiedText methodText thisPointer methodList baseText elementText fullSize layoutSize namedSize recordSize sizeStep staticMark methodNamed procedureNamed functionText afterRead sameIndex rank entryOf body walked answer within whole overTypes functionReading typeReading₀ sizeReading sizeOutcome sizeAnswer calls.functionOutcome calls.typeOutcome
 computing = tt
 
 -- Fields, records and a stream, as bytes.

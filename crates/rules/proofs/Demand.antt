@@ -17,19 +17,20 @@ use Rattle.streams.specs.declared.refusal.Refusal.the-variants as refusal₀
 use Rattle.streams.specs.declared.stream.Stream.{Stream}
 use Rattle.streams.specs.declared.stream.StreamCheck.{StreamCheck}
 use Rattle.streams.specs.declared.stream.StreamCheck.the-variants.{Good, Refused}
-use Rattle.reading.specs.Trace.{Mark, again, deep, long, End, done, missing, refused, halted, unfinished, Count, count, Trace, tr, Finished, held, strict, plain}
-use Rattle.reading.proofs.Laws.{Stopped, unnoted, exactly, walk-beside, walk-ends, one-end}
-use Rattle.reading.proofs.Steps.{by-steps}
+use Rattle.interpreter.specs.Trace.{Note, again, deep, long, End, done, missing, refused, halted, unfinished, Count, count, Trace, tr, Finished, held, strict, plain}
+use Rattle.interpreter.proofs.Laws.{Stopped, unnoted, exactly, walk-beside, walk-ends, one-end}
+use Rattle.interpreter.proofs.Steps.{by-steps}
 use Rattle.rules.specs.Flags.{Settings, settings, sized, flagged}
 use Rattle.rules.specs.Record.{Table, tableOf}
-use Rattle.rules.specs.Rules.{Task, byItself, functionOf, sizeOf, idOf, sameIndex, entryOf, body, rank, walked, plainly}
+use Rattle.rules.specs.Task.{Task, byItself, functionOf, sizeOf, idOf}
+use Rattle.rules.specs.Opening.{sameIndex, entryOf, body, rank, walked, plainly}
 use Rattle.rules.specs.Call.{Outcome, text, stopped, answer, within, refusal, whole, none, overTypes, overIds, functionReading, idReading, typeReading, sizeReading, strictly, plainTo, metAgain, limitPassed, Reads, Demand, FunctionDemand, IdDemand, TypeDemand, SizeFinished}
 use Rattle.rules.proofs.Rank.{ranked}
 
 -- What ties a call's walk to its plain readings: the walk writes a text exactly where some number of steps finish the reading in it with nothing noted, and a reading
 -- has one end.
 record Tied (s : Trace Refusal) (p : ℕ → Trace Refusal) : Type 0 where
-  forth : (bs : List ℕ) (ns : List Mark) (k : Count) → s ≡ tr bs done ns k → p (k .taken) ≡ tr bs done [] k
+  forth : (bs : List ℕ) (ns : List Note) (k : Count) → s ≡ tr bs done ns k → p (k .taken) ≡ tr bs done [] k
   back : (bs : List ℕ) (k : Count) (n : ℕ) → p n ≡ tr bs done [] k → s ≡ tr bs done [] k
   single : (n m : ℕ) → Finished (p n) → Finished (p m) → p n ≡ p m
   ends : Finished s
@@ -41,7 +42,7 @@ tied-walk c t x = record { forth = forth; back = back; single = single; ends = w
     both : (bs : List ℕ) (k : Count) → (walked c t (held 0 []) x ≡ tr bs done [] k) ↔ ((n : ℕ) × (plainly c t n (held 0 []) x ≡ tr bs done [] k))
     both bs k = exactly sameIndex (entryOf c t) (body c t) rank (ranked c t) (held 0 []) x bs done k tt (λ s. elim s [ ])
 
-    forth : (bs : List ℕ) (ns : List Mark) (k : Count) → walked c t (held 0 []) x ≡ tr bs done ns k → plainly c t (k .taken) (held 0 []) x ≡ tr bs done [] k
+    forth : (bs : List ℕ) (ns : List Note) (k : Count) → walked c t (held 0 []) x ≡ tr bs done ns k → plainly c t (k .taken) (held 0 []) x ≡ tr bs done [] k
     forth bs ns k e =
         let clean = unnoted (walk-beside sameIndex (entryOf c t) (body c t) rank (ranked c t) (held 0 []) x) bs done ns k e (λ s. elim s [ ]) in
         let r = by-steps sameIndex (entryOf c t) (body c t) plain (held 0 []) x (tr bs done [] k) tt .0 (both bs k .0 clean) in
@@ -92,7 +93,7 @@ module _ (flags size : ℕ) (types : List ℕ) where
 
 -- What a text answer says of the trace, and the other way round.
 record IsText (room : ℕ) (bs : List ℕ) (n : ℕ) (s : Trace Refusal) : Type 0 where
-  notes : List Mark
+  notes : List Note
   steps : ℕ
   is : s ≡ tr bs done notes (count n steps)
   fits : length bs ≤ room
@@ -122,7 +123,7 @@ is-text room bs n (tr cs e ns k) p = go (leb (length cs) room) e refl p
     go true (halted (long i)) l p = no-text p
     go true unfinished l p = no-text p
 
-text-is : (room : ℕ) (bs : List ℕ) (ns : List Mark) (k : Count) → length bs ≤ room → within room (tr bs done ns k) ≡ text bs (k .opened)
+text-is : (room : ℕ) (bs : List ℕ) (ns : List Note) (k : Count) → length bs ≤ room → within room (tr bs done ns k) ≡ text bs (k .opened)
 unfolding within answer
 text-is room bs ns k h = go (leb (length bs) room) (le→leb (length bs) room h)
   where
@@ -130,7 +131,7 @@ text-is room bs ns k h = go (leb (length bs) room) (le→leb (length bs) room h)
     go true t = refl
     go false t = absurd t
 
-no-notes : (ns : List Mark) → metAgain ns ≡ false → limitPassed ns ≡ false → ns ≡ []
+no-notes : (ns : List Note) → metAgain ns ≡ false → limitPassed ns ≡ false → ns ≡ []
 unfolding metAgain limitPassed
 no-notes [] p q = refl
 no-notes (again i ∷ ns) p q = absurd (let z : _≡_ {A = ℕ} 0 1 = cc in omega arith)
@@ -139,7 +140,7 @@ no-notes (long i ∷ ns) p q = absurd (let z : _≡_ {A = ℕ} 0 1 = cc in omega
 
 module _ {s : Trace Refusal} {p : ℕ → Trace Refusal} (tied : Tied s p) where
   clean : {bs : List ℕ} {n : ℕ} (r : Reads p bs n) → p (r .steps) ≡ tr bs done [] (count n (r .steps))
-  clean {bs} {n} r = r .ended ∙ ap (λ (ns : List Mark). tr bs done ns (count n (r .steps))) (no-notes (r .notes) (r .notAgain) (r .notPassed))
+  clean {bs} {n} r = r .ended ∙ ap (λ (ns : List Note). tr bs done ns (count n (r .steps))) (no-notes (r .notes) (r .notAgain) (r .notPassed))
 
   demand : (room : ℕ) (bs : List ℕ) (n : ℕ) → (within room s ≡ text bs n) ↔ (Reads p bs n × (length bs ≤ room))
   unfolding metAgain limitPassed
@@ -154,7 +155,7 @@ module _ {s : Trace Refusal} {p : ℕ → Trace Refusal} (tied : Tied s p) where
       back (r, h) = rw (tied .back bs (count n (r .steps)) (r .steps) (clean r)) (text-is room bs [] (count n (r .steps)) h)
 
   -- The plain reading ends in at most one text, whatever is noted along it.
-  one-text : (n m : ℕ) (bs cs : List ℕ) (ns ms : List Mark) (k l : Count) → p n ≡ tr bs done ns k → p m ≡ tr cs done ms l → bs ≡ cs
+  one-text : (n m : ℕ) (bs cs : List ℕ) (ns ms : List Note) (k l : Count) → p n ≡ tr bs done ns k → p m ≡ tr cs done ms l → bs ≡ cs
   one-text n m bs cs ns ms k l e f =
       let same = tied .single n m (subst Finished (sym e) tt) (subst Finished (sym f) tt) in
       let all : tr bs done ns k ≡ tr cs done ms l = sym e ∙ same ∙ f in

@@ -9,50 +9,17 @@ use lib.ListN.{length}
 use Rattle.wire.specs.Field.{pick}
 use Rattle.streams.specs.declared.refusal.Refusal.{Refusal}
 use Rattle.streams.specs.Refusal.{numberOf, detailOf}
-use Rattle.reading.specs.Trace.{Entry, through, opens, afresh, Key, key, Prog, write, refuse, miss, call}
-use Rattle.reading.proofs.Laws.{Calls, Ranked}
+use Rattle.interpreter.specs.Trace.{Entry, through, opens, afresh, Key, key, Prog, write, refuse, miss, call}
+use Rattle.interpreter.proofs.Laws.{Calls, Ranked}
 use Rattle.rules.specs.Flags.{Settings}
 use Rattle.rules.specs.Record.{Method, Named, class, union, enumeration, enumerate, kindOnly, Record, pointer, modifier, procedure, method, arguments, array, primitive, named, Read, good, bad, IdRecord, Table}
 use Rattle.rules.specs.Text.{missingMark, unimplementedMark}
-use Rattle.rules.specs.Rules.{
-  listed,
-  Task,
-  byItself,
-  functionOf,
-  target,
-  targetOfModifier,
-  modified,
-  listOf,
-  element,
-  sizeOf,
-  idOf,
-  functionId,
-  memberId,
-  Rule,
-  inside,
-  baseText,
-  asItself,
-  unless,
-  unread,
-  marked,
-  result,
-  procedureResult,
-  returned,
-  methodArguments,
-  procedureArguments,
-  entries,
-  typeText,
-  alone,
-  elementText,
-  namedSize,
-  recordSize,
-  sizeStep,
-  idAlone,
-  afterRead,
-  entryOf,
-  body,
-  rank,
-}
+use Rattle.rules.specs.Task.{separated, Task, byItself, functionOf, target, targetOfModifier, modified, listOf, element, sizeOf, idOf, functionId, memberId, Rule, inside, unless, unread, marked}
+use Rattle.rules.specs.Types.{result, procedureResult, returned, methodArguments, procedureArguments, argumentEntries, typeText, alone}
+use Rattle.rules.specs.Arrays.{baseText, elementText}
+use Rattle.rules.specs.Sizes.{namedSize, recordSize, sizeStep}
+use Rattle.rules.specs.Ids.{idAlone}
+use Rattle.rules.specs.Opening.{asItself, afterRead, entryOf, body, rank}
 
 pub low : (t : Task) → rank t < 256
 unfolding rank
@@ -98,8 +65,8 @@ module _ (c : Settings) (m : ℕ) where
   result-falls true i = tt
   result-falls false i = (omega arith, tt)
 
-  entries-fall : (b : Bool) (l : List ℕ) → Calls Below (entries c b l)
-  unfolding Calls listed rank
+  entries-fall : (b : Bool) (l : List ℕ) → Calls Below (argumentEntries c b l)
+  unfolding Calls separated rank
   entries-fall b [] = tt
   entries-fall b (a ∷ l) = (tt, (omega arith, entries-fall true l))
 

@@ -15,8 +15,8 @@ use Rattle.streams.specs.declared.refusal.Refusal.the-variants.{Missing, Circul
 use Rattle.streams.specs.declared.stream.Stream.{Stream}
 use Rattle.streams.specs.declared.stream.StreamCheck.{StreamCheck}
 use Rattle.streams.specs.declared.stream.StreamCheck.the-variants.{Good, Refused}
-use Rattle.reading.specs.Trace.{
-  Mark,
+use Rattle.interpreter.specs.Trace.{
+  Note,
   again,
   deep,
   long,
@@ -35,7 +35,8 @@ use Rattle.reading.specs.Trace.{
 }
 use Rattle.rules.specs.Flags.{Settings, settings, sized, flagged}
 use Rattle.rules.specs.Record.{Table, tableOf}
-use Rattle.rules.specs.Rules.{Task, byItself, functionOf, sizeOf, idOf, walked, plainly}
+use Rattle.rules.specs.Task.{Task, byItself, functionOf, sizeOf, idOf}
+use Rattle.rules.specs.Opening.{walked, plainly}
 
 -- What a text call answers: a text, with the count of indexes opened for it, or a refusal.
 pub data Outcome : Type 0 where
@@ -160,13 +161,13 @@ ofSize (bytes n) = accepted n
 ofSize (unsized f) = refusedBy f
 
 -- What was noted along a reading: an index opened while open, a limit passed.
-unfoldable pub metAgain : List Mark → Bool
+unfoldable pub metAgain : List Note → Bool
 metAgain [] = false
 metAgain (again i ∷ ns) = true
 metAgain (deep i ∷ ns) = metAgain ns
 metAgain (long i ∷ ns) = metAgain ns
 
-unfoldable pub limitPassed : List Mark → Bool
+unfoldable pub limitPassed : List Note → Bool
 limitPassed [] = false
 limitPassed (again i ∷ ns) = limitPassed ns
 limitPassed (deep i ∷ ns) = true
@@ -176,7 +177,7 @@ limitPassed (long i ∷ ns) = true
 -- was passed. `reading n` is the plain reading with tasks taken up at most n deep.
 pub record Reads (reading : ℕ → Trace Refusal) (bs : List ℕ) (n : ℕ) : Type 0 where
   pub steps : ℕ
-  pub notes : List Mark
+  pub notes : List Note
   pub ended : reading steps ≡ tr bs done notes (count n steps)
   pub notAgain : metAgain notes ≡ false
   pub notPassed : limitPassed notes ≡ false
@@ -187,7 +188,7 @@ pub record Reads (reading : ℕ → Trace Refusal) (bs : List ℕ) (n : ℕ) : T
 pub record Demand (reading : (Settings → Table → Task → Trace Refusal) → Trace Refusal) : Type 0 where
   pub finished : Finished (reading strictly)
   pub exactly : (room : ℕ) (bs : List ℕ) (n : ℕ) → (within room (reading strictly) ≡ text bs n) ↔ (Reads (λ n. reading (plainTo n)) bs n × (length bs ≤ room))
-  pub one : (n m : ℕ) (bs cs : List ℕ) (ns ms : List Mark) (k l : Count) → reading (plainTo n) ≡ tr bs done ns k → reading (plainTo m) ≡ tr cs done ms l → bs ≡ cs
+  pub one : (n m : ℕ) (bs cs : List ℕ) (ns ms : List Note) (k l : Count) → reading (plainTo n) ≡ tr bs done ns k → reading (plainTo m) ≡ tr cs done ms l → bs ≡ cs
   pub never : ((n : ℕ) → ¬ (Finished (reading (plainTo n)))) → (room : ℕ) (bs : List ℕ) (n : ℕ) → ¬ (within room (reading strictly) ≡ text bs n)
 
 -- Demand 3 of each text call.

@@ -1,5 +1,12 @@
-pub mod Call
 pub mod Flags
 pub mod Record
-pub mod Rules
 pub mod Text
+pub mod Task
+pub mod Types
+pub mod Pointers
+pub mod Methods
+pub mod Arrays
+pub mod Sizes
+pub mod Ids
+pub mod Opening
+pub mod Call

@@ -133,21 +133,21 @@ idContents s (id.StringList e) = strings (numbersAt s (e .start) (e .count))
 idContents s (id.String t) = string (nameAt s (t .name))
 idContents s (id.Unhandled k) = idKindOnly k
 
-unfoldable pub typeReading : List ℕ → TypeRead → Read Record
-typeReading s (typeRead.Good t) = good (typeContents s t)
-typeReading s (typeRead.Refused f) = bad f
+unfoldable pub typeAsRead : List ℕ → TypeRead → Read Record
+typeAsRead s (typeRead.Good t) = good (typeContents s t)
+typeAsRead s (typeRead.Refused f) = bad f
 
-unfoldable pub idReading : List ℕ → IdRead → Read IdRecord
-idReading s (idRead.Good d) = good (idContents s d)
-idReading s (idRead.Refused f) = bad f
+unfoldable pub idAsRead : List ℕ → IdRead → Read IdRecord
+idAsRead s (idRead.Good d) = good (idContents s d)
+idAsRead s (idRead.Refused f) = bad f
 
 -- The table of two checked streams.
 unfoldable pub tableOf : List ℕ → Stream → List ℕ → Stream → Table
 tableOf s t d u =
     record {
-      types = λ i. typeReading s (readType s t i);
+      types = λ i. typeAsRead s (readType s t i);
       end = t .end;
-      ids = λ i. idReading d (readId d u i);
+      ids = λ i. idAsRead d (readId d u i);
     }
 
 -- What follows from a record, by its kind: the one place that lists the kinds for the rules below.

@@ -1,2 +1,4 @@
+pub mod Command
+pub mod Line
 pub mod Sheet
 pub mod Printed

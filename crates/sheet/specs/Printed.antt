@@ -22,14 +22,14 @@ pub record Placed : Type 0 where
   pub on : Page
   pub full : Bool
 
-abbrev pub put : Page → Bool → Placed
-put g b = record { on = g; full = b }
+abbrev pub placedOn : Page → Bool → Placed
+placedOn g b = record { on = g; full = b }
 
 -- A line is left out where it was printed before, and where there is no room for the whole of it.
 unfoldable pub putOf : Page → Bool → List ℕ → Placed
 putOf g before l =
-    pick before (put g false)
-    (pick (leb (length l) (length (g .buf) - g .pen .at)) (put (ink g l) false) (put g true))
+    pick before (placedOn g false)
+    (pick (leb (length l) (length (g .buf) - g .pen .at)) (placedOn (ink g l) false) (placedOn g true))
 
 -- The buffer at exit with the counts, and what they are of the lines that fit.
 pub record Shown : Type 0 where

@@ -7,10 +7,10 @@ use lib.ListN.{length, take, drop}
 use Rattle.wire.specs.Field.{pick}
 use Rattle.streams.specs.declared.refusal.Refusal.the-variants.{UnknownCommand}
 use Rattle.rules.specs.Call.{functionOutcome, idOutcome, typeOutcome, sizeOutcome, Report, ofSize}
-use Rattle.lines.specs.Command.{commandAt, givenName}
-use Rattle.lines.specs.Line.{toldLine, refusedLine, outcomeLine, sizeLine}
-use Rattle.lines.specs.declared.command.Command.{Command}
-use Rattle.lines.specs.declared.command.Command.the-variants.{End, Flags, PointerSize, TypeText, TypeSize, IdText, FunctionText, Faulty}
+use Rattle.sheet.specs.Command.{commandAt, givenName}
+use Rattle.sheet.specs.Line.{toldLine, refusedLine, outcomeLine, sizeLine}
+use Rattle.sheet.specs.declared.command.Command.{Command}
+use Rattle.sheet.specs.declared.command.Command.the-variants.{End, Flags, PointerSize, TypeText, TypeSize, IdText, FunctionText, Faulty}
 use Rattle.sheet.specs.declared.State.{State}
 use Rattle.sheet.specs.declared.Step.{Step}
 use Rattle.sheet.specs.declared.Step.the-variants.{Over, Setting, Last, Line}

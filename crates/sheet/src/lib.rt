@@ -6,35 +6,38 @@ ghost use lib.Dec.{ltb};
 ghost use lib.ListN.{length};
 ghost use Rattle.streams.specs.Stream.{checked};
 ghost use Rattle.streams.specs.declared.refusal.StreamKind.the-variants.{Types, Ids};
-ghost use Rattle.lines.specs.Command.{givenName};
+ghost use Rattle.sheet.specs.Command.{givenName};
 ghost use Rattle.pen.specs.Page.{page};
-ghost use Rattle.answers.specs.Answers.{ofAnswer};
-ghost use Rattle.calls.specs.Checks.{ofSizeAnswer};
-ghost use Rattle.lines.specs.Line.{sizeLine, refusedLine};
+ghost use Rattle.checked_calls.specs.Answers.{ofAnswer};
+ghost use Rattle.checked_calls.specs.Checks.{ofSizeAnswer};
+ghost use Rattle.sheet.specs.Line.{sizeLine, refusedLine};
 ghost use Rattle.sheet.specs.Sheet.{afterOf, behindOf, stepOf, answerLine, functionLine, lineOf, sheetFit};
-ghost use Rattle.sheet.specs.Printed.{put, putOf, shown, laidOut, Whole, SheetContinues, Countable};
-use answers::Answer;
-use answers::start;
-use calls::SizeAnswer;
-use calls::function_over;
-use calls::id_over;
-use calls::size_over;
-use calls::type_over;
+ghost use Rattle.sheet.specs.Printed.{placedOn, putOf, shown, laidOut, Whole, SheetContinues, Countable};
+use crate::command::Command;
+use crate::command::command_at;
+use crate::command::name_end;
+use crate::line::emit_refused;
+use crate::line::emit_size;
+use crate::line::emit_text;
+use checked_calls::answer::Answer;
+use checked_calls::answer::start;
+use checked_calls::calls::SizeAnswer;
+use checked_calls::calls::function_over;
+use checked_calls::calls::id_over;
+use checked_calls::calls::size_over;
+use checked_calls::calls::type_over;
 use codeview::index::IdIndex;
 use codeview::index::TypeIndex;
-use lines::command::Command;
-use lines::command::command_at;
-use lines::command::name_end;
-use lines::line::emit_refused;
-use lines::line::emit_size;
-use lines::line::emit_text;
+use leaf_writers::names::name_of;
 use pen::Pen;
 use streams::refusal::Refusal;
 use streams::refusal::StreamKind;
 use streams::stream::StreamCheck;
 use streams::stream::check_stream;
 use wire::name::Name;
-use writers::names::name_of;
+
+pub mod command;
+pub mod line;
 
 // Where a sheet has been read to, how many lines that makes, and what holds for the next command.
 pub struct State {
@@ -263,7 +266,7 @@ fn put_line(
     skip: usize,
 ) -> Put
     requires { ⌜ (t ≡ checked Types (now types)) × ((u ≡ checked Ids (now ids)) × ((p .at ≤ length (now out)) × Countable s)) ⌝ }
-    ensures { λ r. ⌜ put (page (now (out .exit)) (r .pen)) (r .full) ≡ putOf (page (now (out .entry)) p) (ltb (s .lines) skip) (lineOf (now (types .entry)) (now (ids .entry)) (now (sheet .entry)) s c) ⌝ }
+    ensures { λ r. ⌜ placedOn (page (now (out .exit)) (r .pen)) (r .full) ≡ putOf (page (now (out .entry)) p) (ltb (s .lines) skip) (lineOf (now (types .entry)) (now (ids .entry)) (now (sheet .entry)) s c) ⌝ }
 {
     if s.lines < skip {
         return Put {

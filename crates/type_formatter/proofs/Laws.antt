@@ -6,8 +6,8 @@ use Rattle.streams.specs.Stream.{checked}
 use Rattle.streams.specs.declared.refusal.StreamKind.the-variants.{Types, Ids}
 use Rattle.streams.specs.declared.stream.StreamCheck.{StreamCheck}
 use Rattle.rules.specs.Call.{functionOutcome, idOutcome, typeOutcome, sizeOutcome}
-use Rattle.calls.specs.Checks.{functionOver, idOver, typeOver, sizeOver}
-use Rattle.calls.proofs.Laws.{function-over, id-over, type-over, size-over}
+use Rattle.checked_calls.specs.Checks.{functionOver, idOver, typeOver, sizeOver}
+use Rattle.checked_calls.proofs.CallsLaws.{function-over, id-over, type-over, size-over}
 
 module _ (types : List ℕ) {t : StreamCheck} (e : t ≡ checked Types types) where
   pub function-checked : (name : List ℕ) (flags size i room : ℕ) → functionOver t flags size types name i room ≡ functionOutcome flags size types name i room

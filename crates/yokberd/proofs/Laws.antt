@@ -7,12 +7,12 @@ use Rattle.wire.specs.Field.{pick}
 use Rattle.streams.specs.Refusal.{numberOf, detailOf}
 use Rattle.streams.specs.declared.refusal.Refusal.{Refusal}
 use Rattle.rules.specs.Call.{Outcome, Size, Report, report, refusedBy, ofSize}
-use Rattle.answers.specs.Answers.{left, ofAnswer, given, laid}
-use Rattle.answers.specs.declared.Answer.{Answer}
-use Rattle.answers.specs.declared.Answer.the-variants as answer
-use Rattle.calls.specs.Checks.{ofSizeAnswer}
-use Rattle.calls.specs.declared.SizeAnswer.{SizeAnswer}
-use Rattle.calls.specs.declared.SizeAnswer.the-variants as size
+use Rattle.checked_calls.specs.Answers.{left, ofAnswer, given, laid}
+use Rattle.checked_calls.specs.declared.answer.Answer.{Answer}
+use Rattle.checked_calls.specs.declared.answer.Answer.the-variants as answer
+use Rattle.checked_calls.specs.Checks.{ofSizeAnswer}
+use Rattle.checked_calls.specs.declared.calls.SizeAnswer.{SizeAnswer}
+use Rattle.checked_calls.specs.declared.calls.SizeAnswer.the-variants as size
 use Rattle.sheet.specs.Sheet.{Fit}
 use Rattle.sheet.specs.Printed.{Shown, shown, laidOut}
 use Rattle.sheet.specs.declared.Printed.{Printed}

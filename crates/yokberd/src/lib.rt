@@ -3,13 +3,13 @@
 ghost use mathlib.Core.Path.{_≡_};
 ghost use lib.ListN.{length};
 ghost use Rattle.rules.specs.Call.{functionOutcome, FunctionDemand, idOutcome, IdDemand, typeOutcome, TypeDemand, sizeOutcome, SizeFinished, report, ofSize};
-ghost use Rattle.answers.specs.Answers.{left, ofAnswer, laid};
-ghost use Rattle.calls.specs.Checks.{ofSizeAnswer};
+ghost use Rattle.checked_calls.specs.Answers.{left, ofAnswer, laid};
+ghost use Rattle.checked_calls.specs.Checks.{ofSizeAnswer};
 ghost use Rattle.sheet.specs.Sheet.{sheetFit};
 ghost use Rattle.sheet.specs.Printed.{laidOut, SheetContinues};
 ghost use Rattle.yokberd.specs.Report.{counts, ofFit};
-use answers::Answer;
-use calls::SizeAnswer;
+use checked_calls::answer::Answer;
+use checked_calls::calls::SizeAnswer;
 use codeview::index::IdIndex;
 use codeview::index::TypeIndex;
 use sheet::print_sheet;

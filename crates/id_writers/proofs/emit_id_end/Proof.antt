@@ -8,7 +8,7 @@ use Rattle.id_writers.proofs.emit_id_end.Tie as tie
 use Rattle.id_writers.proofs.emit_id_end.Reads as reads
 use Rattle.id_writers.proofs.emit_id_end.Lts as lts
 use Rattle.id_writers.proofs.emit_procedure_end.Reads as emit-procedure-end-reads
-use Rattle.writers.proofs.names.name_of.Reads as name-of-reads
+use Rattle.leaf_writers.proofs.names.name_of.Reads as name-of-reads
 
 name-of-requires : tie.Need-name-of-requires
 name-of-requires c κs = search needs

@@ -8,11 +8,11 @@ use Rattle.id_writers.proofs.emit_method.Statement.{statement}
 use Rattle.id_writers.proofs.emit_method.Tie as tie
 use Rattle.id_writers.proofs.emit_method.Reads as reads
 use Rattle.id_writers.proofs.emit_method.Lts as lts
-use Rattle.pieces.proofs.hides_return.Reads as hides-return-reads
-use Rattle.pieces.proofs.maybe_emit_static.Reads as maybe-emit-static-reads
+use Rattle.leaf_writers.proofs.fragments.hides_return.Reads as hides-return-reads
+use Rattle.leaf_writers.proofs.fragments.maybe_emit_static.Reads as maybe-emit-static-reads
 use Rattle.emit.proofs.emit_method_args.Reads as emit-method-args-reads
 use Rattle.emit.proofs.emit_return_type.Reads as emit-return-type-reads
-use Rattle.writers.proofs.names.emit_name_str.Reads as emit-name-str-reads
+use Rattle.leaf_writers.proofs.names.emit_name_str.Reads as emit-name-str-reads
 
 hides-return-requires : tie.Need-hides-return-requires
 hides-return-requires c κs = search needs

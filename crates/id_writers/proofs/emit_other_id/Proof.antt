@@ -10,9 +10,9 @@ use Rattle.id_writers.proofs.emit_other_id.Lts as lts
 use Rattle.id_writers.proofs.emit_member_id.Reads as emit-member-id-reads
 use Rattle.id_writers.proofs.emit_string_list.Reads as emit-string-list-reads
 use Rattle.pen.proofs.text.Reads as text-reads
-use Rattle.writers.proofs.marks.unhandled_scope.Reads as unhandled-scope-reads
-use Rattle.writers.proofs.names.name_of.Reads as name-of-reads
-use Rattle.writers.proofs.strings.emit_string.Reads as emit-string-reads
+use Rattle.leaf_writers.proofs.marks.unhandled_scope.Reads as unhandled-scope-reads
+use Rattle.leaf_writers.proofs.names.name_of.Reads as name-of-reads
+use Rattle.leaf_writers.proofs.strings.emit_string.Reads as emit-string-reads
 
 enum-told : tie.Need-enum-told
 enum-told c = search needs

@@ -7,10 +7,10 @@ use Rattle.id_writers.proofs.emit_procedure_end.Statement.{statement}
 use Rattle.id_writers.proofs.emit_procedure_end.Tie as tie
 use Rattle.id_writers.proofs.emit_procedure_end.Reads as reads
 use Rattle.id_writers.proofs.emit_procedure_end.Lts as lts
-use Rattle.parts.proofs.settings.no_arguments.Reads as no-arguments-reads
+use Rattle.leaf_writers.proofs.settings.no_arguments.Reads as no-arguments-reads
 use Rattle.pen.proofs.text.Reads as text-reads
 use Rattle.emit.proofs.emit_type_index.Reads as emit-type-index-reads
-use Rattle.writers.proofs.names.emit_name_str.Reads as emit-name-str-reads
+use Rattle.leaf_writers.proofs.names.emit_name_str.Reads as emit-name-str-reads
 
 text-requires : tie.Need-text-requires
 text-requires c κs = search needs

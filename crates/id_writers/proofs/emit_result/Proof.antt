@@ -7,8 +7,8 @@ use Rattle.id_writers.proofs.emit_result.Statement.{statement}
 use Rattle.id_writers.proofs.emit_result.Tie as tie
 use Rattle.id_writers.proofs.emit_result.Reads as reads
 use Rattle.id_writers.proofs.emit_result.Lts as lts
-use Rattle.pieces.proofs.hides_return.Reads as hides-return-reads
-use Rattle.pieces.proofs.is_void.Reads as is-void-reads
+use Rattle.leaf_writers.proofs.fragments.hides_return.Reads as hides-return-reads
+use Rattle.leaf_writers.proofs.fragments.is_void.Reads as is-void-reads
 use Rattle.emit.proofs.emit_return_type.Reads as emit-return-type-reads
 
 is-void-requires : tie.Need-is-void-requires

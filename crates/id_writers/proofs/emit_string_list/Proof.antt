@@ -14,9 +14,9 @@ use Rattle.id_writers.proofs.emit_string_list.Statement.{statement}
 use Rattle.id_writers.proofs.emit_string_list.Tie as tie
 use Rattle.id_writers.proofs.emit_string_list.Reads as reads
 use Rattle.id_writers.proofs.emit_string_list.Lts as lts
-use Rattle.parts.proofs.settings.text_if.Reads as text-if-reads
+use Rattle.leaf_writers.proofs.settings.text_if.Reads as text-if-reads
 use Rattle.pen.proofs.is_idle.Reads as is-idle-reads
-use Rattle.pieces.proofs.entry_at.Reads as entry-at-reads
+use Rattle.leaf_writers.proofs.fragments.entry_at.Reads as entry-at-reads
 use Rattle.emit.proofs.emit_type_index.Reads as emit-type-index-reads
 
 abbrev Inv-loop : tie.InvT-loop

@@ -2,7 +2,7 @@
 -- Assumes nothing.
 use mathlib.Core.Path.{_∙_}
 use native.Mathlib.Omega.{arith}
-use Rattle.sheet.proofs.Laws.{after-end, after-flags, after-pointer, after-type, after-size, after-id, after-function, after-faulty}
+use Rattle.sheet.proofs.SheetLaws.{after-end, after-flags, after-pointer, after-type, after-size, after-id, after-function, after-faulty}
 use borrow.Author.Needs.{needs}
 use Rattle.sheet.proofs.after.Statement.{statement}
 use Rattle.sheet.proofs.after.Tie as tie

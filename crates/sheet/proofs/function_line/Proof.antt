@@ -2,14 +2,14 @@
 -- Assumes nothing.
 use mathlib.Core.Path.{ap, _∙_}
 use native.Mathlib.Omega.{arith}
-use Rattle.lines.specs.Line.{outcomeLine}
-use Rattle.sheet.proofs.Laws.{whole-as, answer-line, function-outcome}
+use Rattle.sheet.specs.Line.{outcomeLine}
+use Rattle.sheet.proofs.SheetLaws.{whole-as, answer-line, function-outcome}
 use borrow.Author.Needs.{needs}
 use Rattle.sheet.proofs.function_line.Statement.{statement}
 use Rattle.sheet.proofs.function_line.Tie as tie
 use Rattle.sheet.proofs.function_line.Reads as reads
 use Rattle.sheet.proofs.function_line.Lts as lts
-use Rattle.calls.proofs.function_over.Reads as function-over-reads
+use Rattle.checked_calls.proofs.calls.function_over.Reads as function-over-reads
 use Rattle.sheet.proofs.given_name.Reads as given-name-reads
 use Rattle.sheet.proofs.write_answer.Reads as write-answer-reads
 

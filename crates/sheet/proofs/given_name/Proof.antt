@@ -2,14 +2,14 @@
 -- Assumes nothing.
 use mathlib.Core.Path.{_∙_}
 use native.Mathlib.Omega.{arith}
-use Rattle.sheet.proofs.Laws.{given-name, name-after}
+use Rattle.sheet.proofs.SheetLaws.{given-name, name-after}
 use borrow.Author.Needs.{needs}
 use Rattle.sheet.proofs.given_name.Statement.{statement}
 use Rattle.sheet.proofs.given_name.Tie as tie
 use Rattle.sheet.proofs.given_name.Reads as reads
 use Rattle.sheet.proofs.given_name.Lts as lts
-use Rattle.lines.proofs.command.name_end.Reads as name-end-reads
-use Rattle.writers.proofs.names.name_of.Reads as name-of-reads
+use Rattle.sheet.proofs.command.name_end.Reads as name-end-reads
+use Rattle.leaf_writers.proofs.names.name_of.Reads as name-of-reads
 
 name-end-requires : tie.Need-name-end-requires
 name-end-requires c κs = search needs

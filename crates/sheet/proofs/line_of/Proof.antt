@@ -2,16 +2,16 @@
 -- Assumes nothing.
 use mathlib.Core.Path.{ap, _∙_}
 use native.Mathlib.Omega.{arith}
-use Rattle.lines.specs.Line.{outcomeLine, sizeLine}
-use Rattle.sheet.proofs.Laws.{whole-as, whole-none, answer-line, type-outcome, id-outcome, size-outcome, line-end, line-flags, line-pointer, line-type, line-size, line-id, line-function, line-faulty}
+use Rattle.sheet.specs.Line.{outcomeLine, sizeLine}
+use Rattle.sheet.proofs.SheetLaws.{whole-as, whole-none, answer-line, type-outcome, id-outcome, size-outcome, line-end, line-flags, line-pointer, line-type, line-size, line-id, line-function, line-faulty}
 use borrow.Author.Needs.{needs}
 use Rattle.sheet.proofs.line_of.Statement.{statement}
 use Rattle.sheet.proofs.line_of.Tie as tie
 use Rattle.sheet.proofs.line_of.Reads as reads
 use Rattle.sheet.proofs.line_of.Lts as lts
-use Rattle.calls.proofs.id_over.Reads as id-over-reads
-use Rattle.calls.proofs.size_over.Reads as size-over-reads
-use Rattle.calls.proofs.type_over.Reads as type-over-reads
+use Rattle.checked_calls.proofs.calls.id_over.Reads as id-over-reads
+use Rattle.checked_calls.proofs.calls.size_over.Reads as size-over-reads
+use Rattle.checked_calls.proofs.calls.type_over.Reads as type-over-reads
 use Rattle.sheet.proofs.function_line.Reads as function-line-reads
 use Rattle.sheet.proofs.write_answer.Reads as write-answer-reads
 use Rattle.sheet.proofs.write_refused.Reads as write-refused-reads

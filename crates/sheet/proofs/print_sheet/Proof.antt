@@ -6,13 +6,13 @@ use mathlib.Core.Logic.{inl, inr}
 use mathlib.Core.Path.{_∙_}
 use lib.ListN.{length}
 use native.Mathlib.Omega.{arith}
-use Rattle.sheet.proofs.Laws.{Going, going-first, going-over, going-set, going-line, going-last, going-stuck, going-length, going-at, inside-set, inside-last, inside-line, less-set, less-line, put-length, full-as, continues, sheet-short}
+use Rattle.sheet.proofs.SheetLaws.{Going, going-first, going-over, going-set, going-line, going-last, going-stuck, going-length, going-at, inside-set, inside-last, inside-line, less-set, less-line, put-length, full-as, continues, sheet-short}
 use Rattle.sheet.proofs.print_sheet.Statement.{statement}
 use Rattle.sheet.proofs.print_sheet.Tie as tie
 use Rattle.sheet.proofs.print_sheet.Reads as reads
 use Rattle.sheet.proofs.print_sheet.Lts as lts
-use Rattle.answers.proofs.start.Reads as start-reads
-use Rattle.lines.proofs.command.command_at.Reads as command-at-reads
+use Rattle.checked_calls.proofs.answer.start.Reads as start-reads
+use Rattle.sheet.proofs.command.command_at.Reads as command-at-reads
 use Rattle.sheet.proofs.after.Reads as after-reads
 use Rattle.sheet.proofs.done.Reads as done-reads
 use Rattle.sheet.proofs.put_line.Reads as put-line-reads

@@ -2,7 +2,7 @@
 -- Assumes nothing.
 use native.Mathlib.Omega.{arith}
 use Rattle.pen.proofs.Laws.{wrote-length}
-use Rattle.sheet.proofs.Laws.{passed, stuck, placed, whole-short, whole-count}
+use Rattle.sheet.proofs.SheetLaws.{passed, stuck, placed, whole-short, whole-count}
 use borrow.Author.Needs.{needs}
 use Rattle.sheet.proofs.put_line.Statement.{statement}
 use Rattle.sheet.proofs.put_line.Tie as tie

@@ -1,6 +1,6 @@
 -- Each kind of command is a case of the definition.
 -- Assumes nothing.
-use Rattle.sheet.proofs.Laws.{step-end, step-flags, step-pointer, step-type, step-size, step-id, step-function, step-faulty}
+use Rattle.sheet.proofs.SheetLaws.{step-end, step-flags, step-pointer, step-type, step-size, step-id, step-function, step-faulty}
 use borrow.Author.Needs.{needs}
 use Rattle.sheet.proofs.step_of.Statement.{statement}
 use Rattle.sheet.proofs.step_of.Tie as tie

@@ -2,16 +2,16 @@
 -- Assumes nothing.
 use native.Mathlib.Omega.{arith}
 use Rattle.pen.proofs.Laws.{wrote-length}
-use Rattle.sheet.proofs.Laws.{line-whole, text-said, refusal-said, taken-length, refused-room, text-room}
+use Rattle.sheet.proofs.SheetLaws.{line-whole, text-said, refusal-said, taken-length, refused-room, text-room}
 use borrow.Author.Needs.{needs}
 use Rattle.sheet.proofs.write_answer.Statement.{statement}
 use Rattle.sheet.proofs.write_answer.Tie as tie
 use Rattle.sheet.proofs.write_answer.Reads as reads
 use Rattle.sheet.proofs.write_answer.Lts as lts
-use Rattle.answers.proofs.start.Reads as start-reads
-use Rattle.lines.proofs.line.emit_refused.Reads as emit-refused-reads
-use Rattle.lines.proofs.line.emit_text.Reads as emit-text-reads
-use Rattle.writers.proofs.names.name_of.Reads as name-of-reads
+use Rattle.checked_calls.proofs.answer.start.Reads as start-reads
+use Rattle.sheet.proofs.line.emit_refused.Reads as emit-refused-reads
+use Rattle.sheet.proofs.line.emit_text.Reads as emit-text-reads
+use Rattle.leaf_writers.proofs.names.name_of.Reads as name-of-reads
 
 start-requires : tie.Need-start-requires
 start-requires c κs = search needs

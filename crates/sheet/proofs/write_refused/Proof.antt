@@ -2,14 +2,14 @@
 -- Assumes nothing.
 use native.Mathlib.Omega.{arith}
 use Rattle.pen.proofs.Laws.{wrote-length}
-use Rattle.sheet.proofs.Laws.{line-whole, refused-room}
+use Rattle.sheet.proofs.SheetLaws.{line-whole, refused-room}
 use borrow.Author.Needs.{needs}
 use Rattle.sheet.proofs.write_refused.Statement.{statement}
 use Rattle.sheet.proofs.write_refused.Tie as tie
 use Rattle.sheet.proofs.write_refused.Reads as reads
 use Rattle.sheet.proofs.write_refused.Lts as lts
-use Rattle.answers.proofs.start.Reads as start-reads
-use Rattle.lines.proofs.line.emit_refused.Reads as emit-refused-reads
+use Rattle.checked_calls.proofs.answer.start.Reads as start-reads
+use Rattle.sheet.proofs.line.emit_refused.Reads as emit-refused-reads
 
 start-requires : tie.Need-start-requires
 start-requires c κs = search needs

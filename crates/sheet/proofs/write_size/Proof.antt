@@ -2,15 +2,15 @@
 -- Assumes nothing.
 use native.Mathlib.Omega.{arith}
 use Rattle.pen.proofs.Laws.{wrote-length}
-use Rattle.sheet.proofs.Laws.{line-whole, size-line, size-refused, refused-room, size-room}
+use Rattle.sheet.proofs.SheetLaws.{line-whole, size-line, size-refused, refused-room, size-room}
 use borrow.Author.Needs.{needs}
 use Rattle.sheet.proofs.write_size.Statement.{statement}
 use Rattle.sheet.proofs.write_size.Tie as tie
 use Rattle.sheet.proofs.write_size.Reads as reads
 use Rattle.sheet.proofs.write_size.Lts as lts
-use Rattle.answers.proofs.start.Reads as start-reads
-use Rattle.lines.proofs.line.emit_refused.Reads as emit-refused-reads
-use Rattle.lines.proofs.line.emit_size.Reads as emit-size-reads
+use Rattle.checked_calls.proofs.answer.start.Reads as start-reads
+use Rattle.sheet.proofs.line.emit_refused.Reads as emit-refused-reads
+use Rattle.sheet.proofs.line.emit_size.Reads as emit-size-reads
 
 start-requires : tie.Need-start-requires
 start-requires c κs = search needs

@@ -3,13 +3,13 @@
 use borrow.Author.Needs.{needs}
 use mathlib.Core.Path.{_∙_, ap}
 use Rattle.rules.proofs.Demand.{function-demand}
-use Rattle.answers.specs.Answers.{laid}
+use Rattle.checked_calls.specs.Answers.{laid}
 use Rattle.type_formatter.proofs.Laws.{function-checked}
 use Rattle.type_formatter.proofs.format_function.Statement.{statement}
 use Rattle.type_formatter.proofs.format_function.Tie as tie
 use Rattle.type_formatter.proofs.format_function.Reads as reads
 use Rattle.type_formatter.proofs.format_function.Lts as lts
-use Rattle.calls.proofs.function_over.Reads as function-over-reads
+use Rattle.checked_calls.proofs.calls.function_over.Reads as function-over-reads
 use Rattle.streams.proofs.stream.check_stream.Reads as check-stream-reads
 
 check-stream-requires : tie.Need-check-stream-requires

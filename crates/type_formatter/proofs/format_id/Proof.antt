@@ -3,13 +3,13 @@
 use borrow.Author.Needs.{needs}
 use mathlib.Core.Path.{_∙_, ap}
 use Rattle.rules.proofs.Demand.{id-demand}
-use Rattle.answers.specs.Answers.{laid}
+use Rattle.checked_calls.specs.Answers.{laid}
 use Rattle.type_formatter.proofs.Laws.{id-checked}
 use Rattle.type_formatter.proofs.format_id.Statement.{statement}
 use Rattle.type_formatter.proofs.format_id.Tie as tie
 use Rattle.type_formatter.proofs.format_id.Reads as reads
 use Rattle.type_formatter.proofs.format_id.Lts as lts
-use Rattle.calls.proofs.id_over.Reads as id-over-reads
+use Rattle.checked_calls.proofs.calls.id_over.Reads as id-over-reads
 use Rattle.streams.proofs.stream.check_stream.Reads as check-stream-reads
 
 check-stream-requires : tie.Need-check-stream-requires

@@ -3,13 +3,13 @@
 use borrow.Author.Needs.{needs}
 use mathlib.Core.Path.{_∙_, ap}
 use Rattle.rules.proofs.Demand.{type-demand}
-use Rattle.answers.specs.Answers.{laid}
+use Rattle.checked_calls.specs.Answers.{laid}
 use Rattle.type_formatter.proofs.Laws.{type-checked}
 use Rattle.type_formatter.proofs.format_type.Statement.{statement}
 use Rattle.type_formatter.proofs.format_type.Tie as tie
 use Rattle.type_formatter.proofs.format_type.Reads as reads
 use Rattle.type_formatter.proofs.format_type.Lts as lts
-use Rattle.calls.proofs.type_over.Reads as type-over-reads
+use Rattle.checked_calls.proofs.calls.type_over.Reads as type-over-reads
 use Rattle.streams.proofs.stream.check_stream.Reads as check-stream-reads
 
 check-stream-requires : tie.Need-check-stream-requires

@@ -9,7 +9,7 @@ use Rattle.type_formatter.proofs.get_type_size.Statement.{statement}
 use Rattle.type_formatter.proofs.get_type_size.Tie as tie
 use Rattle.type_formatter.proofs.get_type_size.Reads as reads
 use Rattle.type_formatter.proofs.get_type_size.Lts as lts
-use Rattle.calls.proofs.size_over.Reads as size-over-reads
+use Rattle.checked_calls.proofs.calls.size_over.Reads as size-over-reads
 use Rattle.streams.proofs.stream.check_stream.Reads as check-stream-reads
 
 check-stream-requires : tie.Need-check-stream-requires

@@ -8,11 +8,11 @@ use Rattle.emit.proofs.Laws.{walks}
 use Rattle.emit.proofs.emit_arg_list.Reads as emit-arg-list
 use Rattle.emit.proofs.args.Reads as args
 use Rattle.emit.proofs.emit_type_index.Reads as emit-type-index
-use Rattle.methods.proofs.check_ptr_class.Reads as check-ptr-class-reads
-use Rattle.parts.proofs.settings.text_if.Reads as text-if-reads
+use Rattle.queries.proofs.this.check_ptr_class.Reads as check-ptr-class-reads
+use Rattle.leaf_writers.proofs.settings.text_if.Reads as text-if-reads
 use Rattle.pen.proofs.text.Reads as text-reads
 use Rattle.pen.proofs.unread.Reads as unread-reads
-use Rattle.pieces.proofs.both.Reads as both-reads
+use Rattle.leaf_writers.proofs.fragments.both.Reads as both-reads
 use Rattle.emit.proofs.+args+base+emit_arg_list+emit_array+emit_member_ptr+emit_method_args+emit_modifier+emit_other_ptr+emit_proc_ptr+emit_ptr+emit_ptr_helper+emit_return_type+emit_type+emit_type_index+emit_type_inner.Lts-args as lts
 use Rattle.emit.proofs.+args+base+emit_arg_list+emit_array+emit_member_ptr+emit_method_args+emit_modifier+emit_other_ptr+emit_proc_ptr+emit_ptr+emit_ptr_helper+emit_return_type+emit_type+emit_type_index+emit_type_inner.Proof.Common.{args-at, emit-arg-list-below, emit-type-index-below}
 

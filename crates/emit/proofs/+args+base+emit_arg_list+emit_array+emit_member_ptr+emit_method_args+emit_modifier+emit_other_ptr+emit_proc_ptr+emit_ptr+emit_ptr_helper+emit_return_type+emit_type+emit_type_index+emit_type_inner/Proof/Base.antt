@@ -12,12 +12,12 @@ use Rattle.emit.proofs.emit_type.Reads as emit-type
 use Rattle.context.proofs.levels.no_levels.Reads as no-levels-reads
 use Rattle.pen.proofs.is_idle.Reads as is-idle-reads
 use Rattle.emit.proofs.aim.Reads as aim-reads
-use Rattle.writers.proofs.marks.marked.Reads as marked-reads
+use Rattle.leaf_writers.proofs.marks.mark_missing.Reads as mark-missing-reads
 use Rattle.emit.proofs.+args+base+emit_arg_list+emit_array+emit_member_ptr+emit_method_args+emit_modifier+emit_other_ptr+emit_proc_ptr+emit_ptr+emit_ptr_helper+emit_return_type+emit_type+emit_type_index+emit_type_inner.Lts-base as lts
 use Rattle.emit.proofs.+args+base+emit_arg_list+emit_array+emit_member_ptr+emit_method_args+emit_modifier+emit_other_ptr+emit_proc_ptr+emit_ptr+emit_ptr_helper+emit_return_type+emit_type+emit_type_index+emit_type_inner.Proof.Common.{base-at, emit-modifier-below, emit-ptr-below, emit-type-below}
 
 abbrev claims : ℕ → lts.Claims
-claims t = (is-idle-reads.Asked, is-idle-reads.Learnt, no-levels-reads.Asked, no-levels-reads.Learnt, aim-reads.Asked, aim-reads.Learnt, emit-ptr-below t, emit-ptr.Post, marked-reads.Asked, marked-reads.Learnt, emit-modifier-below t, emit-modifier.Post, emit-type-below t, emit-type.Post)
+claims t = (is-idle-reads.Asked, is-idle-reads.Learnt, no-levels-reads.Asked, no-levels-reads.Learnt, aim-reads.Asked, aim-reads.Learnt, emit-ptr-below t, emit-ptr.Post, mark-missing-reads.Asked, mark-missing-reads.Learnt, emit-modifier-below t, emit-modifier.Post, emit-type-below t, emit-type.Post)
 
 is-idle-requires : (t : ℕ) → lts.Need-is-idle-requires (claims t) (base-at t) base.Post
 is-idle-requires t c κs = search (c .before .before .before .before .pre, needs)
@@ -37,8 +37,8 @@ aim-requires t c κs = search (c .before .before .before .before .match, c .befo
 emit-ptr-requires : (t : ℕ) → lts.Need-emit-ptr-requires (claims t) (base-at t) base.Post
 emit-ptr-requires t c κs = search (c .before .before .before .before .before .before .match, c .before .before .before .before .before .before .before .if1, c .before .before .before .before .before .before .before .before .before .before .before .before .before .pre, c .before .aim .ensures, c .before .before .no-levels .ensures, c .before .before .before .before .before .before .before .before .is-idle .ensures, needs)
 
-marked-requires : (t : ℕ) → lts.Need-marked-requires (claims t) (base-at t) base.Post
-marked-requires t c κs = search (c .before .before .before .before .before .before .before .before .before .before .match, c .before .before .before .before .before .before .before .before .before .before .before .if1, c .before .before .before .before .before .before .before .before .before .before .before .before .before .before .before .before .before .pre, c .before .before .before .before .before .aim .ensures, c .before .before .before .before .before .before .no-levels .ensures, c .before .before .before .before .before .before .before .before .before .before .before .before .is-idle .ensures, needs)
+mark-missing-requires : (t : ℕ) → lts.Need-mark-missing-requires (claims t) (base-at t) base.Post
+mark-missing-requires t c κs = search (c .before .before .before .before .before .before .before .before .before .before .match, c .before .before .before .before .before .before .before .before .before .before .before .if1, c .before .before .before .before .before .before .before .before .before .before .before .before .before .before .before .before .before .pre, c .before .before .before .before .before .aim .ensures, c .before .before .before .before .before .before .no-levels .ensures, c .before .before .before .before .before .before .before .before .before .before .before .before .is-idle .ensures, needs)
 
 enum-known-t-2 : (t : ℕ) → lts.Need-enum-known-t-2 (claims t) (base-at t) base.Post
 enum-known-t-2 t c = search needs
@@ -46,17 +46,17 @@ enum-known-t-2 t c = search needs
 emit-modifier-requires : (t : ℕ) → lts.Need-emit-modifier-requires (claims t) (base-at t) base.Post
 emit-modifier-requires t c κs = search (c .before .before .before .before .match, c .before .before .before .before .before .if1, c .before .before .before .before .before .before .before .before .before .before .before .pre, c .before .before .before .before .before .before .is-idle .ensures, needs)
 
-marked-requires-2 : (t : ℕ) → lts.Need-marked-requires-2 (claims t) (base-at t) base.Post
-marked-requires-2 t c κs = search (c .before .before .before .before .before .before .before .before .match, c .before .before .before .before .before .before .before .before .before .if1, c .before .before .before .before .before .before .before .before .before .before .before .before .before .before .before .pre, c .before .before .before .before .before .before .before .before .before .before .is-idle .ensures, needs)
+mark-missing-requires-2 : (t : ℕ) → lts.Need-mark-missing-requires-2 (claims t) (base-at t) base.Post
+mark-missing-requires-2 t c κs = search (c .before .before .before .before .before .before .before .before .match, c .before .before .before .before .before .before .before .before .before .if1, c .before .before .before .before .before .before .before .before .before .before .before .before .before .before .before .pre, c .before .before .before .before .before .before .before .before .before .before .is-idle .ensures, needs)
 
 emit-type-requires : (t : ℕ) → lts.Need-emit-type-requires (claims t) (base-at t) base.Post
 emit-type-requires t c κs = (omega (arith, c .before .before .before .before .before .before .before .before .pre), omega (arith, c .before .before .before .before .before .before .before .before .pre))
 
 returns-2 : (t : ℕ) → lts.Need-returns-2 (claims t) (base-at t) base.Post
-returns-2 t c = wrote-by (wrote-marking (sym (c .before .before .before .before .before .before .before .before .before .before .before .before .before .before .before .is-idle .ensures) ∙ c .before .before .before .before .before .before .before .before .before .before .before .before .before .before .if1 .left) (c .before .before .before .before .before .before .emit-ptr .ensures) (c .before .before .marked .ensures)) (text-by _ _ _ _ _ (inner-pointer _ _ _ _ _ _ _ _ (c .before .before .before .before .before .before .before .before .before .before .before .before .t .given .1) (c .before .before .before .before .before .before .before .before .before .no-levels .ensures .levels) (c .before .before .before .before .before .before .before .before .aim .ensures .1)))
+returns-2 t c = wrote-by (wrote-marking (sym (c .before .before .before .before .before .before .before .before .before .before .before .before .before .before .before .is-idle .ensures) ∙ c .before .before .before .before .before .before .before .before .before .before .before .before .before .before .if1 .left) (c .before .before .before .before .before .before .emit-ptr .ensures) (c .before .before .mark-missing .ensures)) (text-by _ _ _ _ _ (inner-pointer _ _ _ _ _ _ _ _ (c .before .before .before .before .before .before .before .before .before .before .before .before .t .given .1) (c .before .before .before .before .before .before .before .before .before .no-levels .ensures .levels) (c .before .before .before .before .before .before .before .before .aim .ensures .1)))
 
 returns-3 : (t : ℕ) → lts.Need-returns-3 (claims t) (base-at t) base.Post
-returns-3 t c = wrote-by (wrote-marking (sym (c .before .before .before .before .before .before .before .before .before .before .before .before .before .is-idle .ensures) ∙ c .before .before .before .before .before .before .before .before .before .before .before .before .if1 .left) (c .before .before .before .before .before .before .emit-modifier .ensures) (c .before .before .marked2 .ensures)) (text-by _ _ _ _ _ (inner-modifier _ _ _ _ _ _ (c .before .before .before .before .before .before .before .before .before .before .t2 .given .1)))
+returns-3 t c = wrote-by (wrote-marking (sym (c .before .before .before .before .before .before .before .before .before .before .before .before .before .is-idle .ensures) ∙ c .before .before .before .before .before .before .before .before .before .before .before .before .if1 .left) (c .before .before .before .before .before .before .emit-modifier .ensures) (c .before .before .mark-missing2 .ensures)) (text-by _ _ _ _ _ (inner-modifier _ _ _ _ _ _ (c .before .before .before .before .before .before .before .before .before .before .t2 .given .1)))
 
 returns-4 : (t : ℕ) → lts.Need-returns-4 (claims t) (base-at t) base.Post
 returns-4 t c = c .before .before .emit-type .ensures
@@ -71,4 +71,4 @@ same-length-3 : (t : ℕ) → lts.Need-same-length-3 (claims t) (base-at t) base
 same-length-3 t c = wrote-length (returns-4 t c)
 
 pub closed : {M : Type 1} (t : ℕ) → lts.Closed (claims t) (base-at t) base.Post M
-closed t = lts.spec (claims t) (base-at t) base.Post (is-idle-requires t) (returns t) (enum-known-t t) (no-levels-requires t) (aim-requires t) (emit-ptr-requires t) (marked-requires t) (enum-known-t-2 t) (emit-modifier-requires t) (marked-requires-2 t) (emit-type-requires t) (same-length t) (returns-2 t) (same-length-2 t) (returns-3 t) (same-length-3 t) (returns-4 t)
+closed t = lts.spec (claims t) (base-at t) base.Post (is-idle-requires t) (returns t) (enum-known-t t) (no-levels-requires t) (aim-requires t) (emit-ptr-requires t) (mark-missing-requires t) (enum-known-t-2 t) (emit-modifier-requires t) (mark-missing-requires-2 t) (emit-type-requires t) (same-length t) (returns-2 t) (same-length-2 t) (returns-3 t) (same-length-3 t) (returns-4 t)

@@ -7,14 +7,14 @@ use mathlib.Core.Path.{_≡_, refl}
 use Prim.Native.Nat.{_≤_, _-_}
 use lib.ListN.{length}
 use Rattle.pen.specs.Page.{page}
-use Rattle.rules.specs.Rules.{comma}
+use Rattle.rules.specs.Types.{comma}
 use Rattle.context.specs.Context.{settingsOf}
 use Rattle.emit.proofs.Laws.{Rest, rest-all, rest-next, rest-none, rest-idle}
 use Rattle.emit.proofs.emit_arg_list.Reads as emit-arg-list
 use Rattle.emit.proofs.emit_type_index.Reads as emit-type-index
 use Rattle.pen.proofs.is_idle.Reads as is-idle-reads
-use Rattle.pieces.proofs.emit_comma.Reads as emit-comma-reads
-use Rattle.pieces.proofs.entry_at.Reads as entry-at-reads
+use Rattle.leaf_writers.proofs.fragments.emit_comma.Reads as emit-comma-reads
+use Rattle.leaf_writers.proofs.fragments.entry_at.Reads as entry-at-reads
 use Rattle.emit.proofs.+args+base+emit_arg_list+emit_array+emit_member_ptr+emit_method_args+emit_modifier+emit_other_ptr+emit_proc_ptr+emit_ptr+emit_ptr_helper+emit_return_type+emit_type+emit_type_index+emit_type_inner.Lts-emit_arg_list as lts
 use Rattle.emit.proofs.+args+base+emit_arg_list+emit_array+emit_member_ptr+emit_method_args+emit_modifier+emit_other_ptr+emit_proc_ptr+emit_ptr+emit_ptr_helper+emit_return_type+emit_type+emit_type_index+emit_type_inner.Proof.Common.{emit-arg-list-at, emit-type-index-below}
 

@@ -6,11 +6,11 @@ use Rattle.pen.proofs.Laws.{_▸_, wrote-by, wrote-length}
 use Rattle.emit.proofs.Laws.{wrote-later, array-base, array-long, array-unsized, array-bad, arrayed-not}
 use Rattle.emit.proofs.emit_array.Reads as emit-array
 use Rattle.emit.proofs.base.Reads as base
-use Rattle.arrays.proofs.get_array_info.Reads as get-array-info-reads
-use Rattle.parts.proofs.brackets.emit_brackets.Reads as emit-brackets-reads
+use Rattle.queries.proofs.arrays.get_array_info.Reads as get-array-info-reads
+use Rattle.leaf_writers.proofs.brackets.emit_brackets.Reads as emit-brackets-reads
 use Rattle.pen.proofs.too_long.Reads as too-long-reads
 use Rattle.pen.proofs.unread.Reads as unread-reads
-use Rattle.sizes.proofs.get_type_size.Reads as get-type-size-reads
+use Rattle.queries.proofs.sizes.get_type_size.Reads as get-type-size-reads
 use Rattle.emit.proofs.+args+base+emit_arg_list+emit_array+emit_member_ptr+emit_method_args+emit_modifier+emit_other_ptr+emit_proc_ptr+emit_ptr+emit_ptr_helper+emit_return_type+emit_type+emit_type_index+emit_type_inner.Lts-emit_array as lts
 use Rattle.emit.proofs.+args+base+emit_arg_list+emit_array+emit_member_ptr+emit_method_args+emit_modifier+emit_other_ptr+emit_proc_ptr+emit_ptr+emit_ptr_helper+emit_return_type+emit_type+emit_type_index+emit_type_inner.Proof.Common.{emit-array-at, base-below}
 

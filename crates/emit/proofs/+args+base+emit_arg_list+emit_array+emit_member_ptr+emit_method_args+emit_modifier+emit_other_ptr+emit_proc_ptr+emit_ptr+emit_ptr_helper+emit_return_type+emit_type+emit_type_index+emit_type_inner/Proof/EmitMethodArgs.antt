@@ -10,7 +10,7 @@ use Rattle.emit.proofs.Laws.{walks, in-lent, in-fits}
 use Rattle.emit.proofs.args.Reads as args
 use Rattle.emit.proofs.emit_method_args.Reads as emit-method-args
 use Rattle.context.proofs.seen.open_type.Reads as open-type-reads
-use Rattle.parts.proofs.settings.no_arguments.Reads as no-arguments-reads
+use Rattle.leaf_writers.proofs.settings.no_arguments.Reads as no-arguments-reads
 use Rattle.pen.proofs.refuse.Reads as refuse-reads
 use Rattle.emit.proofs.+args+base+emit_arg_list+emit_array+emit_member_ptr+emit_method_args+emit_modifier+emit_other_ptr+emit_proc_ptr+emit_ptr+emit_ptr_helper+emit_return_type+emit_type+emit_type_index+emit_type_inner.Lts-emit_method_args as lts
 use Rattle.emit.proofs.+args+base+emit_arg_list+emit_array+emit_member_ptr+emit_method_args+emit_modifier+emit_other_ptr+emit_proc_ptr+emit_ptr+emit_ptr_helper+emit_return_type+emit_type+emit_type_index+emit_type_inner.Proof.Common.{emit-method-args-at, args-below}

@@ -9,11 +9,11 @@ use Rattle.emit.proofs.Laws.{arrayed-low, in-lent, in-fits}
 use Rattle.emit.proofs.emit_modifier.Reads as emit-modifier
 use Rattle.emit.proofs.emit_ptr.Reads as emit-ptr
 use Rattle.emit.proofs.emit_type.Reads as emit-type
-use Rattle.context.proofs.levels.no_levels.Reads as no-levels-reads
 use Rattle.context.proofs.seen.open_type.Reads as open-type-reads
-use Rattle.parts.proofs.named.emit_primitive.Reads as emit-primitive-reads
-use Rattle.parts.proofs.settings.text_if.Reads as text-if-reads
-use Rattle.pieces.proofs.either.Reads as either-reads
+use Rattle.context.proofs.levels.no_levels.Reads as no-levels-reads
+use Rattle.leaf_writers.proofs.named.emit_primitive.Reads as emit-primitive-reads
+use Rattle.leaf_writers.proofs.settings.text_if.Reads as text-if-reads
+use Rattle.leaf_writers.proofs.fragments.either.Reads as either-reads
 use Rattle.emit.proofs.aim.Reads as aim-reads
 use Rattle.emit.proofs.+args+base+emit_arg_list+emit_array+emit_member_ptr+emit_method_args+emit_modifier+emit_other_ptr+emit_proc_ptr+emit_ptr+emit_ptr_helper+emit_return_type+emit_type+emit_type_index+emit_type_inner.Lts-emit_modifier as lts
 use Rattle.emit.proofs.+args+base+emit_arg_list+emit_array+emit_member_ptr+emit_method_args+emit_modifier+emit_other_ptr+emit_proc_ptr+emit_ptr+emit_ptr_helper+emit_return_type+emit_type+emit_type_index+emit_type_inner.Proof.Common.{emit-modifier-at, emit-ptr-below, emit-type-below}

@@ -7,7 +7,7 @@ use mathlib.Core.Path.{refl}
 use Rattle.emit.proofs.Laws.{other-ptr-is, arrayed-low}
 use Rattle.emit.proofs.emit_other_ptr.Reads as emit-other-ptr
 use Rattle.emit.proofs.emit_type.Reads as emit-type
-use Rattle.pieces.proofs.emit_attributes_since.Reads as emit-attributes-since-reads
+use Rattle.leaf_writers.proofs.fragments.emit_attributes_since.Reads as emit-attributes-since-reads
 use Rattle.emit.proofs.+args+base+emit_arg_list+emit_array+emit_member_ptr+emit_method_args+emit_modifier+emit_other_ptr+emit_proc_ptr+emit_ptr+emit_ptr_helper+emit_return_type+emit_type+emit_type_index+emit_type_inner.Lts-emit_other_ptr as lts
 use Rattle.emit.proofs.+args+base+emit_arg_list+emit_array+emit_member_ptr+emit_method_args+emit_modifier+emit_other_ptr+emit_proc_ptr+emit_ptr+emit_ptr_helper+emit_return_type+emit_type+emit_type_index+emit_type_inner.Proof.Common.{emit-other-ptr-at, emit-type-below}
 

@@ -8,9 +8,9 @@ use Rattle.emit.proofs.Laws.{aimed-stopped, aimed-open, aimed-pointer, 
 use Rattle.emit.proofs.Laws.{in-lent, in-fits}
 use Rattle.emit.proofs.emit_ptr.Reads as emit-ptr
 use Rattle.emit.proofs.emit_ptr_helper.Reads as emit-ptr-helper
-use Rattle.context.proofs.levels.over_pointee.Reads as over-pointee-reads
 use Rattle.context.proofs.seen.open_type.Reads as open-type-reads
 use Rattle.emit.proofs.way_to.Reads as way-to-reads
+use Rattle.context.proofs.levels.over_pointee.Reads as over-pointee-reads
 use Rattle.emit.proofs.aim.Reads as aim-reads
 use Rattle.emit.proofs.+args+base+emit_arg_list+emit_array+emit_member_ptr+emit_method_args+emit_modifier+emit_other_ptr+emit_proc_ptr+emit_ptr+emit_ptr_helper+emit_return_type+emit_type+emit_type_index+emit_type_inner.Lts-emit_ptr as lts
 use Rattle.emit.proofs.+args+base+emit_arg_list+emit_array+emit_member_ptr+emit_method_args+emit_modifier+emit_other_ptr+emit_proc_ptr+emit_ptr+emit_ptr_helper+emit_return_type+emit_type+emit_type_index+emit_type_inner.Proof.Common.{emit-ptr-at, emit-ptr-below, emit-ptr-helper-below}

@@ -8,15 +8,15 @@ use Rattle.emit.proofs.Laws.{self-stopped, self-open, self-bad}
 use Rattle.emit.proofs.Laws.{arrayed-low, in-lent, in-fits}
 use Rattle.emit.proofs.emit_type.Reads as emit-type
 use Rattle.emit.proofs.emit_type_index.Reads as emit-type-index
-use Rattle.codeview.proofs.types.type_at.Reads as type-at-reads
 use Rattle.context.proofs.seen.open_index.Reads as open-index-reads
+use Rattle.codeview.proofs.types.type_at.Reads as type-at-reads
 use Rattle.pen.proofs.is_idle.Reads as is-idle-reads
-use Rattle.writers.proofs.marks.mark.Reads as mark-reads
+use Rattle.leaf_writers.proofs.marks.emit_mark.Reads as emit-mark-reads
 use Rattle.emit.proofs.+args+base+emit_arg_list+emit_array+emit_member_ptr+emit_method_args+emit_modifier+emit_other_ptr+emit_proc_ptr+emit_ptr+emit_ptr_helper+emit_return_type+emit_type+emit_type_index+emit_type_inner.Lts-emit_type_index as lts
 use Rattle.emit.proofs.+args+base+emit_arg_list+emit_array+emit_member_ptr+emit_method_args+emit_modifier+emit_other_ptr+emit_proc_ptr+emit_ptr+emit_ptr_helper+emit_return_type+emit_type+emit_type_index+emit_type_inner.Proof.Common.{emit-type-index-at, emit-type-below}
 
 abbrev claims : ℕ → lts.Claims
-claims t = (is-idle-reads.Asked, is-idle-reads.Learnt, type-at-reads.Asked, type-at-reads.Learnt, open-index-reads.Asked, open-index-reads.Learnt, emit-type-below t, emit-type.Post, mark-reads.Asked, mark-reads.Learnt)
+claims t = (is-idle-reads.Asked, is-idle-reads.Learnt, type-at-reads.Asked, type-at-reads.Learnt, open-index-reads.Asked, open-index-reads.Learnt, emit-type-below t, emit-type.Post, emit-mark-reads.Asked, emit-mark-reads.Learnt)
 
 is-idle-requires : (t : ℕ) → lts.Need-is-idle-requires (claims t) (emit-type-index-at t) emit-type-index.Post
 is-idle-requires t c κs = search (c .before .before .before .before .pre, needs)
@@ -54,8 +54,8 @@ enum-known-q-2 t c = search needs
 enum-known-f : (t : ℕ) → lts.Need-enum-known-f (claims t) (emit-type-index-at t) emit-type-index.Post
 enum-known-f t c = search needs
 
-mark-requires : (t : ℕ) → lts.Need-mark-requires (claims t) (emit-type-index-at t) emit-type-index.Post
-mark-requires t c κs = search (c .before .before .before .match, c .before .before .before .before .before .before .if1, c .before .before .before .before .before .before .before .before .before .before .before .before .pre, c .before .before .before .before .type-at .ensures, c .before .before .before .before .before .before .before .is-idle .ensures, needs)
+emit-mark-requires : (t : ℕ) → lts.Need-emit-mark-requires (claims t) (emit-type-index-at t) emit-type-index.Post
+emit-mark-requires t c κs = search (c .before .before .before .match, c .before .before .before .before .before .before .if1, c .before .before .before .before .before .before .before .before .before .before .before .before .pre, c .before .before .before .before .type-at .ensures, c .before .before .before .before .before .before .before .is-idle .ensures, needs)
 
 returns-2 : (t : ℕ) → lts.Need-returns-2 (claims t) (emit-type-index-at t) emit-type-index.Post
 returns-2 t c = self-open _ _ _ _ _ (c .before .before .before .before .before .before .before .before .before .before .before .before .before .before .type-at .ensures) (c .before .before .before .before .before .before .before .before .before .before .before .before .t .given .1) (c .before .before .before .before .before .before .before .before .before .open-index .ensures) (search needs) (c .before .before .before .before .before .before .q .given .1) (c .before .before .emit-type .ensures)
@@ -64,7 +64,7 @@ returns-3 : (t : ℕ) → lts.Need-returns-3 (claims t) (emit-type-index-at t) e
 returns-3 t c = self-stopped _ _ _ _ _ (c .before .before .before .before .before .before .before .before .before .type-at .ensures) (c .before .before .before .before .before .before .before .t .given .1) (c .before .before .before .before .open-index .ensures) (search needs) (c .before .q2 .given .1)
 
 returns-4 : (t : ℕ) → lts.Need-returns-4 (claims t) (emit-type-index-at t) emit-type-index.Post
-returns-4 t c = wrote-by (wrote-step ▸ (c .before .before .mark .ensures)) (search (self-bad, c .before .before .before .before .before .before .match, c .before .before .before .before .before .before .before .before .before .if1, c .before .before .before .before .before .before .before .before .before .before .before .before .before .before .before .pre, c .before .before .before .before .before .before .before .type-at .ensures, c .before .before .before .before .before .before .before .before .before .before .is-idle .ensures, needs))
+returns-4 t c = wrote-by (wrote-step ▸ (c .before .before .emit-mark .ensures)) (search (self-bad, c .before .before .before .before .before .before .match, c .before .before .before .before .before .before .before .before .before .if1, c .before .before .before .before .before .before .before .before .before .before .before .before .before .before .before .pre, c .before .before .before .before .before .before .before .type-at .ensures, c .before .before .before .before .before .before .before .before .before .before .is-idle .ensures, needs))
 
 same-length : (t : ℕ) → lts.Need-same-length (claims t) (emit-type-index-at t) emit-type-index.Post
 same-length t c = wrote-length (returns-2 t c)
@@ -73,4 +73,4 @@ same-length-2 : (t : ℕ) → lts.Need-same-length-2 (claims t) (emit-type-index
 same-length-2 t c = wrote-length (returns-4 t c)
 
 pub closed : {M : Type 1} (t : ℕ) → lts.Closed (claims t) (emit-type-index-at t) emit-type-index.Post M
-closed t = lts.spec (claims t) (emit-type-index-at t) emit-type-index.Post (is-idle-requires t) (returns t) (type-at-requires t) (enum-known-t t) (slice-aggregate-open-index t) (open-index-requires t) (enum-known-q t) (array-share-prefix-list t) (slice-aggregate-emit-type t) (emit-type-requires t) (enum-known-q-2 t) (enum-known-f t) (mark-requires t) (same-length t) (returns-2 t) (returns-3 t) (same-length-2 t) (returns-4 t)
+closed t = lts.spec (claims t) (emit-type-index-at t) emit-type-index.Post (is-idle-requires t) (returns t) (type-at-requires t) (enum-known-t t) (slice-aggregate-open-index t) (open-index-requires t) (enum-known-q t) (array-share-prefix-list t) (slice-aggregate-emit-type t) (emit-type-requires t) (enum-known-q-2 t) (enum-known-f t) (emit-mark-requires t) (same-length t) (returns-2 t) (returns-3 t) (same-length-2 t) (returns-4 t)

@@ -13,11 +13,11 @@ use Rattle.emit.proofs.emit_return_type.Reads as emit-return-type
 use Rattle.emit.proofs.emit_type_index.Reads as emit-type-index
 use Rattle.emit.proofs.emit_type_inner.Reads as emit-type-inner
 use Rattle.context.proofs.levels.no_levels.Reads as no-levels-reads
-use Rattle.parts.proofs.named.emit_primitive.Reads as emit-primitive-reads
+use Rattle.leaf_writers.proofs.named.emit_primitive.Reads as emit-primitive-reads
 use Rattle.pen.proofs.text.Reads as text-reads
-use Rattle.pieces.proofs.emit_record.Reads as emit-record-reads
-use Rattle.pieces.proofs.hides_return.Reads as hides-return-reads
-use Rattle.pieces.proofs.is_void.Reads as is-void-reads
+use Rattle.leaf_writers.proofs.fragments.emit_record.Reads as emit-record-reads
+use Rattle.leaf_writers.proofs.fragments.hides_return.Reads as hides-return-reads
+use Rattle.leaf_writers.proofs.fragments.is_void.Reads as is-void-reads
 use Rattle.emit.proofs.aim.Reads as aim-reads
 use Rattle.emit.proofs.+args+base+emit_arg_list+emit_array+emit_member_ptr+emit_method_args+emit_modifier+emit_other_ptr+emit_proc_ptr+emit_ptr+emit_ptr_helper+emit_return_type+emit_type+emit_type_index+emit_type_inner.Lts-emit_type_inner as lts
 use Rattle.emit.proofs.+args+base+emit_arg_list+emit_array+emit_member_ptr+emit_method_args+emit_modifier+emit_other_ptr+emit_proc_ptr+emit_ptr+emit_ptr_helper+emit_return_type+emit_type+emit_type_index+emit_type_inner.Proof.Common.{emit-type-inner-at, emit-arg-list-below, emit-array-below, emit-method-args-below, emit-modifier-below, emit-ptr-below, emit-return-type-below, emit-type-index-below}

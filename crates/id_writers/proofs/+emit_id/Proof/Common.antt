@@ -13,7 +13,7 @@ use Rattle.id_writers.proofs.emit_result.Reads as emit-result-reads
 use Rattle.pen.proofs.is_idle.Reads as is-idle-reads
 use Rattle.pen.proofs.refuse.Reads as refuse-reads
 use Rattle.pen.proofs.too_long.Reads as too-long-reads
-use Rattle.writers.proofs.marks.mark.Reads as mark-reads
+use Rattle.leaf_writers.proofs.marks.emit_mark.Reads as emit-mark-reads
 
 abbrev pub μ-emit-id : Measures 3 emit-id-kinds.ps ℕ
 μ-emit-id κs a = a .1 .1 .1 .1 .1 .0

@@ -17,12 +17,12 @@ use Rattle.id_writers.proofs.emit_result.Reads as emit-result-reads
 use Rattle.pen.proofs.is_idle.Reads as is-idle-reads
 use Rattle.pen.proofs.refuse.Reads as refuse-reads
 use Rattle.pen.proofs.too_long.Reads as too-long-reads
-use Rattle.writers.proofs.marks.mark.Reads as mark-reads
+use Rattle.leaf_writers.proofs.marks.emit_mark.Reads as emit-mark-reads
 use Rattle.id_writers.proofs.+emit_id.Lts-emit_id as lts
 use Rattle.id_writers.proofs.+emit_id.Proof.Common.{emit-id-at, emit-id-below}
 
 abbrev claims : ℕ → lts.Claims
-claims t = (is-idle-reads.Asked, is-idle-reads.Learnt, id-at-reads.Asked, id-at-reads.Learnt, too-long-reads.Asked, too-long-reads.Learnt, deeper-reads.Asked, deeper-reads.Learnt, emit-other-id-reads.Asked, emit-other-id-reads.Learnt, open-type-reads.Asked, open-type-reads.Learnt, refuse-reads.Asked, refuse-reads.Learnt, emit-result-reads.Asked, emit-result-reads.Learnt, emit-id-end-reads.Asked, emit-id-end-reads.Learnt, emit-id-below t, emit-id.Post, mark-reads.Asked, mark-reads.Learnt)
+claims t = (is-idle-reads.Asked, is-idle-reads.Learnt, id-at-reads.Asked, id-at-reads.Learnt, too-long-reads.Asked, too-long-reads.Learnt, deeper-reads.Asked, deeper-reads.Learnt, emit-other-id-reads.Asked, emit-other-id-reads.Learnt, open-type-reads.Asked, open-type-reads.Learnt, refuse-reads.Asked, refuse-reads.Learnt, emit-result-reads.Asked, emit-result-reads.Learnt, emit-id-end-reads.Asked, emit-id-end-reads.Learnt, emit-id-below t, emit-id.Post, emit-mark-reads.Asked, emit-mark-reads.Learnt)
 
 is-idle-requires : (t : ℕ) → lts.Need-is-idle-requires (claims t) (emit-id-at t) emit-id.Post
 is-idle-requires t c κs = search needs
@@ -126,8 +126,8 @@ enum-known-q-2 t c = search needs
 enum-known-f : (t : ℕ) → lts.Need-enum-known-f (claims t) (emit-id-at t) emit-id.Post
 enum-known-f t c = search needs
 
-mark-requires : (t : ℕ) → lts.Need-mark-requires (claims t) (emit-id-at t) emit-id.Post
-mark-requires t c κs = search needs
+emit-mark-requires : (t : ℕ) → lts.Need-emit-mark-requires (claims t) (emit-id-at t) emit-id.Post
+emit-mark-requires t c κs = search needs
 
 returns-6 : (t : ℕ) → lts.Need-returns-6 (claims t) (emit-id-at t) emit-id.Post
 returns-6 t c = wrote-by (wrote-step ▸ function-id-open _ _ _ _ _ _ (c .before .before .before .before .before .before .before .before .before .before .before .before .before .before .before .before .before .before .before .before .before .before .before .before .before .open-type .ensures) (search needs) _ (c .before .before .before .before .before .before .before .before .before .before .before .before .before .before .before .before .before .before .before .before .before .before .q .given .1) (wrote-by (c .before .before .before .before .before .before .before .before .before .before .before .before .before .before .emit-result .ensures ▸ c .before .before .before .before .before .before .before .before .emit-id .ensures ▸ c .before .before .emit-id-end2 .ensures) (function-id-scoped _ _ _ _ _ _ _ _ _ (c .before .before .before .before .before .before .before .before .before .before .before .before .before .before .before .before .before .before .before .t .given .1) (c .before .before .before .before .before .before .before .before .before .before .if3 .left)))) (id-function _ _ _ _ _ _ _ (c .before .before .before .before .before .before .before .before .before .before .before .before .before .before .before .before .before .before .before .before .before .before .before .before .before .before .before .before .before .before .before .before .before .before .before .before .before .before .id-at .ensures) (c .before .before .before .before .before .before .before .before .before .before .before .before .before .before .before .before .before .before .before .before .before .before .before .before .before .before .before .before .before .before .before .before .before .before .before .before .d .given .1) (omega (arith, c .before .before .before .before .before .before .before .before .before .before .before .before .before .before .before .before .before .before .before .before .before .before .before .before .before .before .before .before .before .before .before .before .before .before .if2 .left, c .before .before .before .before .before .before .before .before .before .before .before .before .before .before .before .before .before .before .before .before .before .before .before .before .before .before .before .before .before .before .before .before .before .before .before .before .before .before .before .before .before .before .before .before .before .pre)) (c .before .before .before .before .before .before .before .before .before .before .before .before .before .before .before .before .before .before .before .before .before .before .before .before .before .before .before .before .before .before .before .before .before .deeper .ensures) _ _ (c .before .before .before .before .before .before .before .before .before .before .before .before .before .before .before .before .before .before .before .before .before .before .before .before .before .before .before .before .before .before .before .d2 .given .1) refl)
@@ -136,7 +136,7 @@ returns-7 : (t : ℕ) → lts.Need-returns-7 (claims t) (emit-id-at t) emit-id.P
 returns-7 t c = wrote-by (wrote-step ▸ function-id-stopped _ _ _ _ _ _ (c .before .before .before .before .open-type .ensures) (search needs) _ (c .before .q2 .given .1)) (id-function _ _ _ _ _ _ _ (c .before .before .before .before .before .before .before .before .before .before .before .before .before .before .before .before .before .id-at .ensures) (c .before .before .before .before .before .before .before .before .before .before .before .before .before .before .before .d .given .1) (omega (arith, c .before .before .before .before .before .before .before .before .before .before .before .before .before .if2 .left, c .before .before .before .before .before .before .before .before .before .before .before .before .before .before .before .before .before .before .before .before .before .before .before .before .pre)) (c .before .before .before .before .before .before .before .before .before .before .before .before .deeper .ensures) _ _ (c .before .before .before .before .before .before .before .before .before .before .d2 .given .1) refl)
 
 returns-8 : (t : ℕ) → lts.Need-returns-8 (claims t) (emit-id-at t) emit-id.Post
-returns-8 t c = wrote-by (wrote-step ▸ c .before .before .mark .ensures) (id-bad _ _ _ _ _ _ (c .before .before .before .before .before .before .before .id-at .ensures) _ (c .before .before .before .before .before .f .given .1))
+returns-8 t c = wrote-by (wrote-step ▸ c .before .before .emit-mark .ensures) (id-bad _ _ _ _ _ _ (c .before .before .before .before .before .before .before .id-at .ensures) _ (c .before .before .before .before .before .f .given .1))
 
 same-length : (t : ℕ) → lts.Need-same-length (claims t) (emit-id-at t) emit-id.Post
 same-length t c = wrote-length (returns-2 t c)
@@ -157,4 +157,4 @@ same-length-6 : (t : ℕ) → lts.Need-same-length-6 (claims t) (emit-id-at t) e
 same-length-6 t c = wrote-length (returns-8 t c)
 
 pub closed : {M : Type 1} (t : ℕ) → lts.Closed (claims t) (emit-id-at t) emit-id.Post M
-closed t = lts.spec (claims t) (emit-id-at t) emit-id.Post (is-idle-requires t) (returns t) (id-at-requires t) (enum-known-d t) (too-long-requires t) (same-length t) (returns-2 t) (deeper-requires t) (enum-known-d-2 t) (emit-other-id-requires t) (same-length-2 t) (returns-3 t) (slice-aggregate-open-type t) (array-share-prefix-none t) (slice-aggregate-open-type-2 t) (open-type-requires t) (enum-known-q t) (enum-known-t t) (refuse-requires t) (same-length-3 t) (returns-4 t) (array-share-prefix-list t) (slice-aggregate-emit-result t) (emit-result-requires t) (array-share-prefix-list-2 t) (slice-aggregate-emit-id-end t) (slice-aggregate-emit-id-end-2 t) (emit-id-end-requires t) (same-length-4 t) (returns-5 t) (sub-emit-id t) (emit-id-requires t) (array-share-prefix-list-3 t) (slice-aggregate-emit-id-end-3 t) (slice-aggregate-emit-id-end-4 t) (emit-id-end-requires-2 t) (enum-known-q-2 t) (enum-known-f t) (mark-requires t) (same-length-5 t) (returns-6 t) (returns-7 t) (same-length-6 t) (returns-8 t)
+closed t = lts.spec (claims t) (emit-id-at t) emit-id.Post (is-idle-requires t) (returns t) (id-at-requires t) (enum-known-d t) (too-long-requires t) (same-length t) (returns-2 t) (deeper-requires t) (enum-known-d-2 t) (emit-other-id-requires t) (same-length-2 t) (returns-3 t) (slice-aggregate-open-type t) (array-share-prefix-none t) (slice-aggregate-open-type-2 t) (open-type-requires t) (enum-known-q t) (enum-known-t t) (refuse-requires t) (same-length-3 t) (returns-4 t) (array-share-prefix-list t) (slice-aggregate-emit-result t) (emit-result-requires t) (array-share-prefix-list-2 t) (slice-aggregate-emit-id-end t) (slice-aggregate-emit-id-end-2 t) (emit-id-end-requires t) (same-length-4 t) (returns-5 t) (sub-emit-id t) (emit-id-requires t) (array-share-prefix-list-3 t) (slice-aggregate-emit-id-end-3 t) (slice-aggregate-emit-id-end-4 t) (emit-id-end-requires-2 t) (enum-known-q-2 t) (enum-known-f t) (emit-mark-requires t) (same-length-5 t) (returns-6 t) (returns-7 t) (same-length-6 t) (returns-8 t)

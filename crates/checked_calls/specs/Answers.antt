@@ -1,0 +1,43 @@
+-- What a text call leaves: the buffer, and what it tells by number, detail and length.
+use Prim.Native.Nat.{ℕ}
+use mathlib.Core.List.{List}
+use lib.ListN.{length, replicate}
+use Rattle.streams.specs.declared.refusal.Refusal.{Refusal}
+use Rattle.streams.specs.declared.refusal.Refusal.the-variants as refusal
+use Rattle.pen.specs.declared.Pen.{Pen}
+use Rattle.pen.specs.declared.Stop.{Stop}
+use Rattle.pen.specs.declared.Stop.the-variants as stop
+use Rattle.rules.specs.Call.{Outcome, bufferAfter, Report, refusedBy, accepted, ofText}
+use Rattle.checked_calls.specs.declared.answer.Answer.{Answer}
+use Rattle.checked_calls.specs.declared.answer.Answer.the-variants.{Text, Refused}
+
+pub record Result : Type 0 where
+  pub buf : List ℕ
+  pub told : Report
+
+abbrev pub left : List ℕ → Report → Result
+left b t = record { buf = b; told = t }
+
+-- What each case of an answer tells, and what the call leaves with it.
+unfoldable pub ofAnswer : Answer → Report
+ofAnswer (Text n) = accepted n
+ofAnswer (Refused f) = refusedBy f
+
+abbrev pub given : List ℕ → Answer → Result
+given b a = left b (ofAnswer a)
+
+-- An outcome of the rules, over the buffer that was lent.
+unfoldable pub laid : List ℕ → Outcome → Result
+laid buf o = left (bufferAfter buf o) (ofText o)
+
+-- The pen before the first byte, and what is answered by the pen at the end. Outside every type a missing record is refusal 8.
+unfoldable pub started : ℕ → Pen
+started limit = record { at = 0; last = 0; opened = 0; limit = limit; stop = stop.No }
+
+abbrev pub closedAs : Stop → List ℕ → ℕ → Result
+closedAs stop.No b n = left b (accepted n)
+closedAs (stop.Missing i) b n = left (replicate (length b) 0) (refusedBy (refusal.Missing i))
+closedAs (stop.Refused f) b n = left (replicate (length b) 0) (refusedBy f)
+
+unfoldable pub closed : List ℕ → Pen → Result
+closed b p = closedAs (p .stop) b (p .at)

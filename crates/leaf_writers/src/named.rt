@@ -1,0 +1,56 @@
+// Primitives, and what has a name behind the word for its kind.
+ghost use mathlib.Core.Path.{_≡_};
+ghost use Rattle.rules.specs.Text.{primitiveText, classText};
+ghost use Rattle.pen.specs.Page.{page, Wrote, writing};
+ghost use Rattle.context.specs.Context.{settingsOf};
+ghost use Rattle.leaf_writers.specs.Parts.{behindWord};
+use crate::names::emit_kind;
+use crate::settings::name_only;
+use crate::settings::space_pointer;
+use crate::settings::text_if;
+use codeview::record::ClassKind;
+use context::flags::Call;
+use pen::Pen;
+
+// A primitive with the const of its modifier: before the name, or behind it where it is pointed to.
+pub fn emit_primitive(
+    out: &mut [u8],
+    p: Pen,
+    call: Call,
+    constant: bool,
+    code: u8,
+    indirection: u32,
+) -> Pen
+    ensures { λ r. ⌜ Wrote (page (now (out .entry)) p) (writing (primitiveText (settingsOf call) constant code indirection)) (page (now (out .exit)) r) ⌝ }
+{
+    if indirection == 0 {
+        let q = text_if(out, p, constant, b"const ");
+        return emit_kind(out, q, code);
+    }
+    let q = emit_kind(out, p, code);
+    let r = text_if(out, q, constant, b" const");
+    let t = text_if(out, r, space_pointer(call), b" ");
+    pen::text(out, t, b"*")
+}
+
+// A name behind the word for its kind, or alone.
+pub fn emit_named(out: &mut [u8], p: Pen, call: Call, word: &[u8], name: &[u8]) -> Pen
+    ensures { λ r. ⌜ Wrote (page (now (out .entry)) p) (writing (behindWord (settingsOf call) (now (word .entry)) (now (name .entry)))) (page (now (out .exit)) r) ⌝ }
+{
+    if name_only(call) {
+        return pen::text(out, p, name);
+    }
+    let q = pen::text(out, p, word);
+    let r = pen::text(out, q, b" ");
+    pen::text(out, r, name)
+}
+
+pub fn emit_class(out: &mut [u8], p: Pen, call: Call, kind: ClassKind, name: &[u8]) -> Pen
+    ensures { λ r. ⌜ Wrote (page (now (out .entry)) p) (writing (classText (settingsOf call) kind (now (name .entry)))) (page (now (out .exit)) r) ⌝ }
+{
+    match kind {
+        ClassKind::Class => emit_named(out, p, call, b"class", name),
+        ClassKind::Struct => emit_named(out, p, call, b"struct", name),
+        ClassKind::Interface => emit_named(out, p, call, b"interface", name),
+    }
+}

@@ -1,0 +1,44 @@
+// Names: those that stand in a stream, and those that are given.
+ghost use mathlib.Core.Path.{_≡_};
+ghost use Rattle.rules.specs.Text.{functionName, primitiveName};
+ghost use Rattle.rules.specs.Record.{nameAt};
+ghost use Rattle.pen.specs.Page.{page, Wrote, writing};
+use pen::Pen;
+use wire::name::Name;
+
+// The bytes of a name that stands in a stream: the part of them that is there.
+pub fn name_of<'a>(s: &'a [u8], n: Name) -> &'a [u8]
+    ensures { λ r. ⌜ now (r) ≡ nameAt (now (s .entry)) n ⌝ }
+{
+    let start = n.start;
+    let len = n.len;
+    let end = s.len();
+    if start > end {
+        return &s[end..];
+    }
+    if len > end - start {
+        return &s[start..];
+    }
+    &s[start..start + len]
+}
+
+// A function's name.
+pub fn emit_name_str(out: &mut [u8], p: Pen, name: &[u8]) -> Pen
+    ensures { λ r. ⌜ Wrote (page (now (out .entry)) p) (writing (functionName (now (name .entry)))) (page (now (out .exit)) r) ⌝ }
+{
+    if name.len() == 0 {
+        return pen::text(out, p, b"<name omitted>");
+    }
+    pen::text(out, p, name)
+}
+
+// The name of a primitive's kind.
+pub fn emit_kind(out: &mut [u8], p: Pen, code: u8) -> Pen
+    ensures { λ r. ⌜ Wrote (page (now (out .entry)) p) (writing (primitiveName code)) (page (now (out .exit)) r) ⌝ }
+{
+    let found = primitives::find_primitive(code);
+    let kind = found.kind;
+    let name = kind.name;
+    let len = kind.len;
+    pen::text(out, p, &name[..len])
+}

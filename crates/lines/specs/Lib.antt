@@ -1,2 +1,0 @@
-pub mod Command
-pub mod Line

@@ -1,0 +1,4 @@
+pub mod ThisLaws
+pub mod ChainLaws
+pub mod FullLaws
+pub mod ArraysLaws

@@ -1,0 +1,67 @@
+-- Sizes as the code answers them, beside the rules' reading of them. The reading of a size depends neither on the ids nor on what is held.
+use Prim.Native.Nat.{ℕ, _+_, _-_}
+use mathlib.Core.Path.{_≡_}
+use mathlib.Core.Bool.{Bool, _&&_, not}
+use mathlib.Core.List.{List, [], _∷_}
+use Rattle.wire.specs.Field.{pick}
+use Rattle.streams.specs.declared.refusal.Refusal.{Refusal}
+use Rattle.streams.specs.declared.stream.Stream.{Stream}
+use Rattle.codeview.specs.declared.record.TypeData.{TypeData}
+use Rattle.codeview.specs.declared.record.TypeRead.{TypeRead}
+use Rattle.codeview.specs.declared.record.TypeRead.the-variants.{Good}
+use Rattle.interpreter.specs.Trace.{long, done, halted, count, Trace, tr, Held}
+use Rattle.rules.specs.Flags.{Settings}
+use Rattle.rules.specs.Record.{typeContents, typeAsRead, tableOf}
+use Rattle.rules.specs.Text.{sameBytes}
+use Rattle.rules.specs.Task.{sizeOf}
+use Rattle.rules.specs.Sizes.{fullOr, fullSize, layoutSize, recordSize}
+use Rattle.rules.specs.Opening.{walked, ruled}
+use Rattle.context.specs.Context.{settingsOf, tableIn}
+use Rattle.context.specs.declared.flags.Call.{Call}
+use Rattle.queries.specs.declared.sizes.SizeRead.{SizeRead}
+use Rattle.queries.specs.declared.sizes.SizeRead.the-variants.{Bytes, TooLong}
+use Rattle.queries.specs.declared.scan.FullRead.{FullRead}
+use Rattle.queries.specs.declared.scan.FullRead.the-variants.{Full, Other}
+
+-- The trace of an answer, so many indexes taken up: a size is one number, and a chain that is too long stops at an index.
+unfoldable pub sizeTrace : SizeRead → ℕ → Trace Refusal
+sizeTrace (Bytes v) k = tr (v ∷ []) done [] (count 0 k)
+sizeTrace (TooLong i) k = tr [] (halted (long i)) [] (count 0 k)
+
+-- The size of an index that comes after so many records of a chain.
+pub record Sizes (types : List ℕ) (call : Call) (i n : ℕ) (r : SizeRead) : Type 0 where
+  pub taken : ℕ
+  pub is : (ids : List ℕ) (h : Held) → sizeTrace r taken ≡ walked (settingsOf call) (tableIn types ids call) h (sizeOf i n)
+
+-- The size of the record that was read for it.
+pub record DataSizes (types : List ℕ) (call : Call) (i n : ℕ) (t : TypeData) (r : SizeRead) : Type 0 where
+  pub taken : ℕ
+  pub is : (ids : List ℕ) (h : Held)
+      → sizeTrace r taken
+      ≡ ruled (settingsOf call) (tableIn types ids call) h (recordSize (settingsOf call) (tableIn types ids call) i n (typeContents types t))
+
+-- The size of a class or union, whatever name it shows.
+pub record LayoutSize (types : List ℕ) (call : Call) (i : ℕ) (forward : Bool) (size : ℕ) (match : List ℕ) (r : ℕ) : Type 0 where
+  pub is : (ids name : List ℕ)
+      → r ≡ layoutSize (settingsOf call) (tableIn types ids call) i (record { forward = forward; size = size; name = name; match = match })
+
+-- The size that a forward reference has by the records from an index on, and by those after its own: whatever the settings and the ids.
+pub record FullFrom (types : List ℕ) (t : Stream) (i : ℕ) (name : List ℕ) (own r : ℕ) : Type 0 where
+  pub is : (c : Settings) (ids : List ℕ) (u : Stream) → r ≡ fullSize c (tableOf types t ids u) (t .end - i) i name own
+
+abbrev pub FullSize : List ℕ → Stream → ℕ → List ℕ → ℕ → ℕ → Type 0
+FullSize types t i name own r = FullFrom types t (i + 1) name own r
+
+-- What one record says of it: a size, or that the others decide.
+unfoldable pub orElse : FullRead → ℕ → ℕ
+orElse (Full v) other = v
+orElse Other other = other
+
+pub record FullLayout (forward : Bool) (size : ℕ) (match name : List ℕ) (r : FullRead) : Type 0 where
+  pub is : (other : ℕ) → orElse r other ≡ pick (not forward && sameBytes match name) size other
+
+pub record FullOf (types : List ℕ) (t : TypeRead) (name : List ℕ) (r : FullRead) : Type 0 where
+  pub is : (other : ℕ) → orElse r other ≡ fullOr (typeAsRead types t) name other
+
+abbrev pub FullData : List ℕ → TypeData → List ℕ → FullRead → Type 0
+FullData types t name r = FullOf types (Good t) name r

@@ -1,0 +1,126 @@
+// The size of a forward reference: that of the first full record after it with its name. One pass over the heads of the records.
+ghost use mathlib.Core.Path.{_≡_};
+ghost use Prim.Native.Nat.{max};
+ghost use Rattle.rules.specs.Text.{sameBytes};
+ghost use Rattle.rules.specs.Record.{matchName};
+ghost use Rattle.queries.specs.Sizes.{FullLayout, FullOf, FullData, FullSize};
+use codeview::index::TypeIndex;
+use codeview::record::TypeData;
+use codeview::record::TypeRead;
+use codeview::record::UniqueName;
+use codeview::types::type_in;
+use leaf_writers::names::name_of;
+use streams::stream::CursorRead;
+use streams::stream::Stream;
+use streams::stream::cursor_at;
+use streams::stream::next_cursor;
+use wire::name::Name;
+
+// What a record says of a forward reference: its size, or nothing.
+enum FullRead {
+    Full(u64),
+    Other,
+}
+
+// Whether two runs of bytes are the same.
+pub fn same_bytes(a: &[u8], b: &[u8]) -> bool
+    ensures { λ r. ⌜ r ≡ sameBytes (now (a .entry)) (now (b .entry)) ⌝ }
+{
+    if a.len() != b.len() {
+        return false;
+    }
+    let mut i = 0;
+    while i < a.len() {
+        if a[i] != b[i] {
+            return false;
+        }
+        i += 1;
+    }
+    true
+}
+
+// The name by which a record is matched.
+pub fn match_name<'a>(types: &'a [u8], name: Name, unique: UniqueName) -> &'a [u8]
+    ensures { λ r. ⌜ now (r) ≡ matchName (now (types .entry)) name unique ⌝ }
+{
+    match unique {
+        UniqueName::Given(u) => name_of(types, u),
+        UniqueName::Absent => name_of(types, name),
+    }
+}
+
+fn full_layout(forward: bool, size: u64, own: &[u8], name: &[u8]) -> FullRead
+    ensures { λ r. ⌜ FullLayout forward size (now (own .entry)) (now (name .entry)) r ⌝ }
+{
+    if forward {
+        return FullRead::Other;
+    }
+    if same_bytes(own, name) {
+        return FullRead::Full(size);
+    }
+    FullRead::Other
+}
+
+fn full_data(types: &[u8], t: TypeData, name: &[u8]) -> FullRead
+    ensures { λ r. ⌜ FullData (now (types .entry)) t (now (name .entry)) r ⌝ }
+{
+    match t {
+        TypeData::Class(c) => {
+            let shown = c.name;
+            let unique = c.unique;
+            let own = match_name(types, shown, unique);
+            full_layout(c.forward, c.size, own, name)
+        }
+        TypeData::Union(u) => {
+            let shown = u.name;
+            let unique = u.unique;
+            let own = match_name(types, shown, unique);
+            full_layout(u.forward, u.size, own, name)
+        }
+        _ => FullRead::Other,
+    }
+}
+
+fn full_read(types: &[u8], t: TypeRead, name: &[u8]) -> FullRead
+    ensures { λ r. ⌜ FullOf (now (types .entry)) t (now (name .entry)) r ⌝ }
+{
+    match t {
+        TypeRead::Good(d) => full_data(types, d, name),
+        TypeRead::Refused(_) => FullRead::Other,
+    }
+}
+
+fn later(a: u32, b: u32) -> u32
+    ensures { λ r. ⌜ r ≡ max a b ⌝ }
+{
+    if a < b { b } else { a }
+}
+
+// The forward reference at an index, with its name and its own size. No index below 0x1000 or the stream's first is a record.
+pub fn get_size_for_forward_reference(
+    types: &[u8],
+    stream: Stream,
+    index: TypeIndex,
+    name: &[u8],
+    own: u64,
+) -> u64
+    ensures { λ r. ⌜ FullSize (now (types .entry)) stream (index .0) (now (name .entry)) own r ⌝ }
+{
+    let i = index.0;
+    let first = stream.first;
+    if stream.end <= i {
+        return own;
+    }
+    let start = later(later(i + 1, 0x1000), first);
+    let mut at = cursor_at(types, stream, start);
+    loop {
+        let CursorRead::At(c) = at else {
+            return own;
+        };
+        let t = type_in(types, stream, c.at, TypeIndex(c.index));
+        if let FullRead::Full(size) = full_read(types, t, name) {
+            return size;
+        }
+        at = next_cursor(types, stream, c);
+    }
+}
