@@ -3,14 +3,16 @@ use Prim.Native.Nat.{ℕ}
 use mathlib.Core.Bool.{Bool, true, false}
 use mathlib.Core.List.{List}
 use Rattle.streams.specs.declared.refusal.Refusal.{Refusal}
+use Rattle.codeview.specs.declared.record.Entries.{Entries}
 use Rattle.codeview.specs.declared.record.MemberFunctionType.{MemberFunctionType}
 use Rattle.interpreter.specs.Trace.{Trace, after}
 use Rattle.rules.specs.Flags.{Settings}
-use Rattle.rules.specs.Record.{Record, Method}
+use Rattle.rules.specs.Record.{Record, Method, arguments, numbersAt}
 use Rattle.rules.specs.Text.{Level, levels, endsSigned}
 use Rattle.rules.specs.Task.{Task, target, targetOfModifier, Rule, texted}
 use Rattle.rules.specs.Types.{typeText}
 use Rattle.rules.specs.Pointers.{aimed, aimedAgain}
+use Rattle.rules.specs.Methods.{methodList}
 use Rattle.rules.specs.Opening.{walked, ruled}
 use Rattle.context.specs.declared.flags.Call.{Call}
 use Rattle.context.specs.declared.seen.Way.{Way}
@@ -33,6 +35,13 @@ methodOf m =
       constructor = m .constructor;
       list = m .arguments .0;
     }
+
+-- The numbers of a list that stands in a stream, and a method's arguments by such a list.
+abbrev pub entriesAt : List ℕ → Entries → List ℕ
+entriesAt s e = numbersAt s (e .start) (e .count)
+
+abbrev pub listRule : List ℕ → List ℕ → Call → MemberFunctionType → Bool → Entries → Rule
+listRule types ids call m closes e = methodList (settingsOf call) (tableIn types ids call) (methodOf m) closes (arguments (entriesAt types e))
 
 -- A type that is neither method nor procedure, under the levels of its pointers (the last case of `pointed`).
 abbrev pub plainPointed : Settings → List Level → Record → Rule

@@ -6,14 +6,13 @@ ghost use lib.ListN.{length};
 ghost use mathlib.Core.Bool.{false};
 ghost use mathlib.Core.List.{[], _∷_};
 ghost use Rattle.rules.specs.Text.{level};
-ghost use Rattle.rules.specs.Record.{method, procedure, arguments, typeContents, numbersAt};
+ghost use Rattle.rules.specs.Record.{method, procedure, arguments, typeContents};
 ghost use Rattle.rules.specs.Task.{byItself, modified, element, texted};
 ghost use Rattle.rules.specs.Types.{typeText, result, methodArguments, argumentEntries};
 ghost use Rattle.rules.specs.Pointers.{pointed};
-ghost use Rattle.rules.specs.Methods.{methodList};
 ghost use Rattle.pen.specs.Page.{page, Wrote};
-ghost use Rattle.context.specs.Context.{settingsOf, tableIn, levelsOf};
-ghost use Rattle.emit.specs.Walking.{walking, ruling, methodOf, plainPointed, aimedAt, wayTo};
+ghost use Rattle.context.specs.Context.{settingsOf, levelsOf};
+ghost use Rattle.emit.specs.Walking.{walking, ruling, methodOf, entriesAt, listRule, plainPointed, aimedAt, wayTo};
 use codeview::index::TypeIndex;
 use codeview::record::ArrayType;
 use codeview::record::Entries;
@@ -120,7 +119,7 @@ fn args(
     e: Entries,
     closes: bool,
 ) -> Pen
-    ensures { λ r. ⌜ Wrote (page (now (out .entry)) p) (ruling (now (types .entry)) (now (ids .entry)) call (now (seen .entry)) (methodList (settingsOf call) (tableIn (now (types .entry)) (now (ids .entry)) call) (methodOf m) closes (arguments (numbersAt (now (types .entry)) (e .start) (e .count))))) (page (now (out .exit)) r) ⌝ }
+    ensures { λ r. ⌜ Wrote (page (now (out .entry)) p) (ruling (now (types .entry)) (now (ids .entry)) call (now (seen .entry)) (listRule (now (types .entry)) (now (ids .entry)) call m closes e)) (page (now (out .exit)) r) ⌝ }
 {
     let stream = call.types;
     let this = m.this;
@@ -382,7 +381,7 @@ fn emit_arg_list(
     led: bool,
     e: Entries,
 ) -> Pen
-    ensures { λ r. ⌜ Wrote (page (now (out .entry)) p) (ruling (now (types .entry)) (now (ids .entry)) call (now (seen .entry)) (argumentEntries (settingsOf call) led (numbersAt (now (types .entry)) (e .start) (e .count)))) (page (now (out .exit)) r) ⌝ }
+    ensures { λ r. ⌜ Wrote (page (now (out .entry)) p) (ruling (now (types .entry)) (now (ids .entry)) call (now (seen .entry)) (argumentEntries (settingsOf call) led (entriesAt (now (types .entry)) e))) (page (now (out .exit)) r) ⌝ }
 {
     let mut q = p;
     let mut between = led;

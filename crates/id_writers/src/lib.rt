@@ -3,19 +3,16 @@ ghost use mathlib.Core.Path.{_≡_};
 ghost use mathlib.Core.Bool.{false};
 ghost use mathlib.Core.List.{[]};
 ghost use Prim.Native.Nat.{_+_, _<_};
-ghost use Rattle.interpreter.specs.Trace.{write, seq};
-ghost use Rattle.rules.specs.Text.{functionName};
-ghost use Rattle.wire.specs.Text.{bytes};
-ghost use Rattle.interpreter.specs.Trace as trace;
-ghost use Rattle.rules.specs.Record.{idContents, nameAt, numbersAt};
-ghost use Rattle.rules.specs.Task.{byItself, functionOf, idOf, memberId};
-ghost use Rattle.rules.specs.Types.{procedureResult, returned, procedureArguments};
+ghost use Rattle.interpreter.specs.Trace.{write};
+ghost use Rattle.rules.specs.Record.{idContents, nameAt};
+ghost use Rattle.rules.specs.Task.{functionOf, idOf, memberId};
+ghost use Rattle.rules.specs.Types.{procedureResult, returned};
 ghost use Rattle.rules.specs.Methods.{methodNamed, procedureNamed};
 ghost use Rattle.rules.specs.Ids.{stringEntries};
 ghost use Rattle.pen.specs.Page.{page, Wrote};
 ghost use Rattle.context.specs.Context.{settingsOf};
-ghost use Rattle.emit.specs.Walking.{walking, ruling, methodOf};
-ghost use Rattle.id_writers.specs.Ids.{further, otherText};
+ghost use Rattle.emit.specs.Walking.{walking, ruling, methodOf, entriesAt};
+ghost use Rattle.id_writers.specs.Ids.{further, procedureEnd, memberNamed, otherText};
 use codeview::ids::id_at;
 use codeview::index::IdIndex;
 use codeview::index::TypeIndex;
@@ -77,7 +74,7 @@ fn emit_procedure_end(
     name: &[u8],
     list: TypeIndex,
 ) -> Pen
-    ensures { λ r. ⌜ Wrote (page (now (out .entry)) p) (ruling (now (types .entry)) (now (ids .entry)) call (now (seen .entry)) (seq (write (now (before .entry))) (seq (write (functionName (now (name .entry)))) (procedureArguments (settingsOf call) (list .0))))) (page (now (out .exit)) r) ⌝ }
+    ensures { λ r. ⌜ Wrote (page (now (out .entry)) p) (ruling (now (types .entry)) (now (ids .entry)) call (now (seen .entry)) (procedureEnd (settingsOf call) (now (before .entry)) (now (name .entry)) (list .0))) (page (now (out .exit)) r) ⌝ }
 {
     let a = pen::text(out, p, before);
     let b = emit_name_str(out, a, name);
@@ -136,7 +133,7 @@ fn emit_id_end(
     f: FunctionId,
     x: ProcedureType,
 ) -> Pen
-    ensures { λ r. ⌜ Wrote (page (now (out .entry)) p) (ruling (now (types .entry)) (now (ids .entry)) call (now (seen .entry)) (seq (write (now (before .entry))) (seq (write (functionName (nameAt (now (ids .entry)) (f .name)))) (procedureArguments (settingsOf call) (x .arguments .0))))) (page (now (out .exit)) r) ⌝ }
+    ensures { λ r. ⌜ Wrote (page (now (out .entry)) p) (ruling (now (types .entry)) (now (ids .entry)) call (now (seen .entry)) (procedureEnd (settingsOf call) (now (before .entry)) (nameAt (now (ids .entry)) (f .name)) (x .arguments .0))) (page (now (out .exit)) r) ⌝ }
 {
     let list = x.arguments;
     let name = f.name;
@@ -232,7 +229,7 @@ fn emit_member(
     name: &[u8],
     m: MemberFunctionType,
 ) -> Pen
-    ensures { λ r. ⌜ Wrote (page (now (out .entry)) p) (ruling (now (types .entry)) (now (ids .entry)) call (now (seen .entry)) (methodNamed (settingsOf call) (methodOf m) (seq (trace.call (byItself (parent .0))) (write (bytes "::"))) (now (name .entry)))) (page (now (out .exit)) r) ⌝ }
+    ensures { λ r. ⌜ Wrote (page (now (out .entry)) p) (ruling (now (types .entry)) (now (ids .entry)) call (now (seen .entry)) (memberNamed (settingsOf call) (methodOf m) (parent .0) (now (name .entry)))) (page (now (out .exit)) r) ⌝ }
 {
     let this = m.this;
     let result = m.result;
@@ -288,7 +285,7 @@ fn emit_member_id(
 
 // The entries of a string list, written as types.
 fn emit_string_list(types: &[u8], ids: &[u8], out: &mut [u8], p: Pen, call: Call, e: Entries) -> Pen
-    ensures { λ r. ⌜ Wrote (page (now (out .entry)) p) (ruling (now (types .entry)) (now (ids .entry)) call [] (stringEntries (settingsOf call) false (numbersAt (now (ids .entry)) (e .start) (e .count)))) (page (now (out .exit)) r) ⌝ }
+    ensures { λ r. ⌜ Wrote (page (now (out .entry)) p) (ruling (now (types .entry)) (now (ids .entry)) call [] (stringEntries (settingsOf call) false (entriesAt (now (ids .entry)) e))) (page (now (out .exit)) r) ⌝ }
 {
     let none = [0u64; 1];
     let mut q = p;

@@ -11,7 +11,7 @@ use lib.Seq.{drop-cons}
 use lib.Dec.{eqb, leb}
 use borrow.Author.Tests.{eq-eqb, ne-eqb, lt-ltb, le-ltb}
 use denote.Enum.Declared.{tagOf}
-use package.types.Run.{OneOf}
+use package.types.Run.{OneOf, miss}
 use Rattle.wire.specs.Field.{pick}
 use Rattle.primitives.specs.Primitive.{primitives, firstOf}
 use Rattle.primitives.specs.declared.PrimitiveKind.{PrimitiveKind}

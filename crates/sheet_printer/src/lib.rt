@@ -1,8 +1,8 @@
 // Prints a sheet's lines on standard output, as many at a time as a lent buffer takes.
 ghost use mathlib.Core.Path.{_≡_};
-ghost use lib.ListN.{length, drop};
-ghost use Rattle.sheet.specs.Sheet.{fit, sheetLines};
-ghost use Rattle.sheet.specs.Printed.{shown, laidOut, Continues};
+ghost use lib.ListN.{length};
+ghost use Rattle.sheet.specs.Sheet.{sheetLines, sheetFit};
+ghost use Rattle.sheet.specs.Printed.{shown, laidOut, SheetContinues};
 ghost use Rattle.sheet_printer.specs.Turns.{told, allTurns, AllTold};
 use sheet::Printed;
 
@@ -15,8 +15,8 @@ pub fn room() -> [u8; 16_384]
 
 // One turn: the lines that fit, without the first `skip`.
 fn print_some(types: &[u8], ids: &[u8], sheet: &[u8], out: &mut [u8], skip: usize) -> Printed
-    ensures { λ r. ⌜ shown (now (out .exit)) r ≡ laidOut (now (out .entry)) (fit (length (now (out .entry))) (drop skip (sheetLines (now (types .entry)) (now (ids .entry)) (now (sheet .entry))))) ⌝ }
-    ensures { λ _. ⌜ Continues (sheetLines (now (types .entry)) (now (ids .entry)) (now (sheet .entry))) skip (length (now (out .entry))) (fit (length (now (out .entry))) (drop skip (sheetLines (now (types .entry)) (now (ids .entry)) (now (sheet .entry))))) ⌝ }
+    ensures { λ r. ⌜ shown (now (out .exit)) r ≡ laidOut (now (out .entry)) (sheetFit (now (types .entry)) (now (ids .entry)) (now (sheet .entry)) skip (length (now (out .entry)))) ⌝ }
+    ensures { λ _. ⌜ SheetContinues (now (types .entry)) (now (ids .entry)) (now (sheet .entry)) skip (length (now (out .entry))) ⌝ }
 {
     let p = sheet::print_sheet(types, ids, sheet, out, skip);
     let n = p.bytes;

@@ -1,4 +1,4 @@
-// The four calls: the text of a function, of an id and of a type, and the size of a type. Each checks its streams; `calls` does the rest.
+// The four calls: the text of a function, of an id and of a type, and the size of a type. Each checks its streams; `checked_calls` does the rest.
 ghost use mathlib.Core.Path.{_≡_};
 ghost use lib.ListN.{length};
 ghost use Rattle.rules.specs.Call.{functionOutcome, FunctionDemand, idOutcome, IdDemand, typeOutcome, TypeDemand, sizeOutcome, ofSize, SizeFinished};

@@ -64,7 +64,7 @@ returns-3 : (t : ℕ) → lts.Need-returns-3 (claims t) (emit-type-index-at t) e
 returns-3 t c = self-stopped _ _ _ _ _ (c .before .before .before .before .before .before .before .before .before .type-at .ensures) (c .before .before .before .before .before .before .before .t .given .1) (c .before .before .before .before .open-index .ensures) (search needs) (c .before .q2 .given .1)
 
 returns-4 : (t : ℕ) → lts.Need-returns-4 (claims t) (emit-type-index-at t) emit-type-index.Post
-returns-4 t c = wrote-by (wrote-step ▸ (c .before .before .emit-mark .ensures)) (search (self-bad, c .before .before .before .before .before .before .match, c .before .before .before .before .before .before .before .before .before .if1, c .before .before .before .before .before .before .before .before .before .before .before .before .before .before .before .pre, c .before .before .before .before .before .before .before .type-at .ensures, c .before .before .before .before .before .before .before .before .before .before .is-idle .ensures, needs))
+returns-4 t c = wrote-by (wrote-step ▸ (c .before .before .emit-mark .ensures)) (self-bad _ _ _ _ _ _ _ (c .before .before .before .before .before .before .before .type-at .ensures) (c .before .before .before .before .before .f .given .1))
 
 same-length : (t : ℕ) → lts.Need-same-length (claims t) (emit-type-index-at t) emit-type-index.Post
 same-length t c = wrote-length (returns-2 t c)
