@@ -7,7 +7,7 @@
     reading.py ids TYPES IDS      prints each id of a pair of streams with its text under flags 0
 
 It was made from the document and from the texts of the Rust module that the document names; where the document leaves a choice, it takes that of
-docs/DECISIONS.md. Nothing of the Rattle code or its definitions is used. Expected outputs are made by it, so it is kept simple rather than fast."""
+docs/READINGS.md. Nothing of the Rattle code or its definitions is used. Expected outputs are made by it, so it is kept simple rather than fast."""
 import os
 import sys
 
