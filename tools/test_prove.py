@@ -127,7 +127,7 @@ class CycleNames(unittest.TestCase):
         for cycle in cycles_in(proofs_folder('emit')):
             length, _ = longest_module('emit', cycle)
             self.assertLessEqual(length, LONGEST)
-            self.assertEqual(longest_module('emit', cycle + 'x' * (LONGEST - length + 1))[0], LONGEST + 1)
+            self.assertEqual(longest_module('emit', '+' + 'x' * (LONGEST - length) + cycle)[0], LONGEST + 1)
 
 
 if __name__ == '__main__':

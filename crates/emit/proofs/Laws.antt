@@ -110,8 +110,8 @@ use Rattle.context.specs.declared.seen.TypeOpening.the-variants as typeOpening
 use Rattle.context.specs.Context.{settingsOf, tableIn, holding, sizesOf}
 use Rattle.context.specs.Opening.{wayOf, Opens, OpensType}
 use Rattle.context.proofs.Opening.{In, in-length, ruled-pick, unread-is, read-good, read-bad, walk-on, open-in, opened-then, stopped-then, type-stopped, type-open}
-use Rattle.leaf_writers.specs.Writers.{markTrace}
-use Rattle.leaf_writers.specs.Pieces.{recordText, isSign}
+use Rattle.leaf_writers.specs.Marks.{markTrace}
+use Rattle.leaf_writers.specs.Fragments.{recordText, isSign}
 use Rattle.queries.specs.This.{thisOf, byThis}
 use Rattle.queries.specs.declared.this.ThisRead.{ThisRead}
 use Rattle.queries.specs.declared.this.ThisRead.the-variants as this

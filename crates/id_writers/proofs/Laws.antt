@@ -92,8 +92,8 @@ use Rattle.context.specs.declared.seen.TypeOpening.the-variants as typeOpening
 use Rattle.context.specs.Context.{settingsOf, tableIn, keysOf, holding}
 use Rattle.context.specs.Opening.{OpensType}
 use Rattle.context.proofs.Opening.{walk-on, type-stopped, type-open}
-use Rattle.leaf_writers.specs.Writers.{markTrace}
-use Rattle.leaf_writers.specs.Pieces.{staticText}
+use Rattle.leaf_writers.specs.Marks.{markTrace}
+use Rattle.leaf_writers.specs.Fragments.{staticText}
 use Rattle.emit.specs.Walking.{methodOf}
 use Rattle.emit.proofs.Laws.{marked-is, returned-is, in-turn}
 use Rattle.id_writers.specs.Ids.{further, otherText}

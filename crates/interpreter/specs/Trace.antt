@@ -11,7 +11,7 @@ use lib.ListN.{length}
 pub data Note : Type 0 where
   again deep long : ℕ → Note
 
--- How a reading ends: with all written, at a missing index, at a refusal of the rules, stopped at a mark, or not yet.
+-- How a reading ends: with all written, at a missing index, at a refusal of the rules, stopped where something is noted, or not yet.
 pub data End (R : Type 0) : Type 0 where
   done : End R
   missing : ℕ → End R
@@ -34,7 +34,7 @@ plus a b = count (a .opened + b .opened) (a .taken + b .taken)
 pub data Trace (R : Type 0) : Type 0 where
   tr : List ℕ → End R → List Note → Count → Trace R
 
--- The two modes: strict stops at a mark, plain notes it and goes on.
+-- The two modes: strict stops at a note, plain writes it down and goes on.
 pub data Mode : Type 0 where
   strict plain : Mode
 
@@ -62,7 +62,7 @@ module _ {R : Type 0} where
   abbrev pub prefix : List ℕ → List Note → Count → Trace R → Trace R
   prefix bs ns c (tr cs e ms d) = tr (bs ++ cs) e (ns ++ ms) (plus c d)
 
-  -- A mark where a test holds: the strict walk stops there, the plain reading notes it.
+  -- A note where a test holds: the strict walk stops there, the plain reading notes it.
   abbrev pub limited : Mode → Bool → Note → Trace R → Trace R
   limited m false x t = t
   limited strict true x t = tr [] (halted x) [] (count 0 0)

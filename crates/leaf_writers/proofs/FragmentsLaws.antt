@@ -24,8 +24,8 @@ use Rattle.rules.specs.Record.{nameAt, typeContents}
 use Rattle.rules.specs.Types.{comma, namedText}
 use Rattle.rules.specs.Text.{worded, classText, unhandledType, Level, levels}
 use Rattle.pen.specs.Page.{writing}
-use Rattle.leaf_writers.specs.Parts.{behindWord}
-use Rattle.leaf_writers.specs.Pieces.{staticText, recordText, isSign}
+use Rattle.leaf_writers.specs.Signs.{behindWord}
+use Rattle.leaf_writers.specs.Fragments.{staticText, recordText, isSign}
 
 -- Bytes past the end count as zeros, and so does a number made of them.
 pub number-past : (width : ℕ) (s : List ℕ) (at : ℕ) → length s ≤ at → number width s at ≡ 0

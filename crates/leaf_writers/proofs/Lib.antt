@@ -1,5 +1,5 @@
-pub mod WritersLaws
 pub mod AnonymousLaws
 pub mod BracketsLaws
-pub mod PartsLaws
 pub mod FragmentsLaws
+pub mod NamesLaws
+pub mod SignsLaws

@@ -1,3 +1,3 @@
-pub mod Writers
-pub mod Parts
-pub mod Pieces
+pub mod Fragments
+pub mod Marks
+pub mod Signs

@@ -3,7 +3,7 @@ ghost use mathlib.Core.Path.{_≡_};
 ghost use Rattle.rules.specs.Text.{sign, levels};
 ghost use Rattle.pen.specs.Page.{page, Wrote, writing};
 ghost use Rattle.context.specs.Context.{settingsOf, levelOf, levelsOf};
-ghost use Rattle.leaf_writers.specs.Parts.{constText, spaced, levelText};
+ghost use Rattle.leaf_writers.specs.Signs.{constText, spaced, levelText};
 use crate::settings::space_pointer;
 use crate::settings::text_if;
 use codeview::record::PointerMode;

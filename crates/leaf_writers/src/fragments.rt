@@ -10,7 +10,7 @@ ghost use Rattle.rules.specs.Types.{comma};
 ghost use Rattle.rules.specs.Text.{levels};
 ghost use Rattle.pen.specs.Page.{page, Wrote, writing, lastSince};
 ghost use Rattle.context.specs.Context.{settingsOf, levelsOf};
-ghost use Rattle.leaf_writers.specs.Pieces.{staticText, recordText, isSign};
+ghost use Rattle.leaf_writers.specs.Fragments.{staticText, recordText, isSign};
 use crate::attributes::emit_attributes;
 use crate::marks::unhandled_type;
 use crate::named::emit_class;

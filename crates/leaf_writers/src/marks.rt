@@ -4,7 +4,7 @@ ghost use mathlib.Core.List.{_++_};
 ghost use Rattle.rules.specs.Text;
 ghost use Rattle.rules.specs.Text.{missingMark, unimplementedMark, unhandledType, unhandledScope};
 ghost use Rattle.pen.specs.Page.{page, Wrote, Caught, writing};
-ghost use Rattle.leaf_writers.specs.Writers.{markTrace};
+ghost use Rattle.leaf_writers.specs.Marks.{markTrace};
 use crate::numbers::hex;
 use pen::Pen;
 use pen::Stop;

@@ -3,7 +3,7 @@ ghost use mathlib.Core.Path.{_≡_};
 ghost use Rattle.rules.specs.Text.{primitiveText, classText};
 ghost use Rattle.pen.specs.Page.{page, Wrote, writing};
 ghost use Rattle.context.specs.Context.{settingsOf};
-ghost use Rattle.leaf_writers.specs.Parts.{behindWord};
+ghost use Rattle.leaf_writers.specs.Signs.{behindWord};
 use crate::names::emit_kind;
 use crate::settings::name_only;
 use crate::settings::space_pointer;

@@ -9,7 +9,7 @@ use lib.ListN.{length, drop}
 use Rattle.rules.specs.Text.{levels}
 use Rattle.pen.specs.Page.{page, ink}
 use Rattle.context.specs.Context.{settingsOf, levelAt, levelsOf}
-use Rattle.leaf_writers.proofs.PartsLaws.{levels-turn, levels-end}
+use Rattle.leaf_writers.proofs.SignsLaws.{levels-turn, levels-end}
 use Rattle.leaf_writers.proofs.attributes.emit_attributes.Statement.{statement}
 use Rattle.leaf_writers.proofs.attributes.emit_attributes.Tie as tie
 use Rattle.leaf_writers.proofs.attributes.emit_attributes.Reads as reads

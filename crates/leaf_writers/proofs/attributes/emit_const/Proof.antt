@@ -1,7 +1,7 @@
 -- With a space before it, or not.
 -- Assumes nothing.
 use Rattle.pen.proofs.Laws.{wrote-by}
-use Rattle.leaf_writers.proofs.PartsLaws.{const-free, const-first}
+use Rattle.leaf_writers.proofs.SignsLaws.{const-free, const-first}
 use borrow.Author.Needs.{needs}
 use Rattle.leaf_writers.proofs.attributes.emit_const.Statement.{statement}
 use Rattle.leaf_writers.proofs.attributes.emit_const.Tie as tie

@@ -2,7 +2,7 @@
 -- Assumes nothing.
 use Rattle.context.specs.Context.{levelOf}
 use Rattle.pen.proofs.Laws.{_▹_, wrote-by}
-use Rattle.leaf_writers.proofs.PartsLaws.{level-is}
+use Rattle.leaf_writers.proofs.SignsLaws.{level-is}
 use borrow.Author.Needs.{needs}
 use Rattle.leaf_writers.proofs.attributes.emit_level.Statement.{statement}
 use Rattle.leaf_writers.proofs.attributes.emit_level.Tie as tie

@@ -3,7 +3,7 @@
 use Rattle.codeview.specs.declared.record.PointerMode.the-variants as mode
 use Rattle.rules.specs.Text.{sign}
 use Rattle.pen.proofs.Laws.{wrote-by}
-use Rattle.leaf_writers.proofs.PartsLaws.{sign-as}
+use Rattle.leaf_writers.proofs.SignsLaws.{sign-as}
 use borrow.Author.Needs.{needs}
 use Rattle.leaf_writers.proofs.attributes.emit_sign.Statement.{statement}
 use Rattle.leaf_writers.proofs.attributes.emit_sign.Tie as tie

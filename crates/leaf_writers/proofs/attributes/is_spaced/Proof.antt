@@ -1,6 +1,6 @@
 -- The cases of `spaced`, in the order of the code.
 -- Assumes nothing.
-use Rattle.leaf_writers.proofs.PartsLaws.{spaced-off, spaced-const, spaced-signed, spaced-free}
+use Rattle.leaf_writers.proofs.SignsLaws.{spaced-off, spaced-const, spaced-signed, spaced-free}
 use Rattle.leaf_writers.proofs.attributes.is_spaced.Statement.{statement}
 use Rattle.leaf_writers.proofs.attributes.is_spaced.Tie as tie
 

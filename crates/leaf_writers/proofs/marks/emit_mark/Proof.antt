@@ -2,8 +2,8 @@
 -- Assumes nothing.
 use package.types.Run.{miss}
 use Rattle.pen.proofs.Laws.{not-number}
-use Rattle.leaf_writers.specs.Writers.{markTrace}
-use Rattle.leaf_writers.proofs.WritersLaws.{noMark}
+use Rattle.leaf_writers.specs.Marks.{markTrace}
+use Rattle.leaf_writers.proofs.NamesLaws.{noMark}
 use borrow.Author.Needs.{needs}
 use Rattle.leaf_writers.proofs.marks.emit_mark.Statement.{statement}
 use Rattle.leaf_writers.proofs.marks.emit_mark.Tie as tie

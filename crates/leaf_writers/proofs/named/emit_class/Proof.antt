@@ -3,8 +3,8 @@
 use Rattle.codeview.specs.declared.record.ClassKind.the-variants as kind
 use Rattle.rules.specs.Text.{worded, classText}
 use Rattle.pen.proofs.Laws.{wrote-by}
-use Rattle.leaf_writers.specs.Parts.{behindWord}
-use Rattle.leaf_writers.proofs.PartsLaws.{class-as}
+use Rattle.leaf_writers.specs.Signs.{behindWord}
+use Rattle.leaf_writers.proofs.SignsLaws.{class-as}
 use borrow.Author.Needs.{needs}
 use Rattle.leaf_writers.proofs.named.emit_class.Statement.{statement}
 use Rattle.leaf_writers.proofs.named.emit_class.Tie as tie

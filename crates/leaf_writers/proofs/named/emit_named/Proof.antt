@@ -1,7 +1,7 @@
 -- The name alone, or the three texts one after another.
 -- Assumes nothing.
 use Rattle.pen.proofs.Laws.{_▹_, wrote-by}
-use Rattle.leaf_writers.proofs.PartsLaws.{named-alone, named-behind}
+use Rattle.leaf_writers.proofs.SignsLaws.{named-alone, named-behind}
 use borrow.Author.Needs.{needs}
 use Rattle.leaf_writers.proofs.named.emit_named.Statement.{statement}
 use Rattle.leaf_writers.proofs.named.emit_named.Tie as tie

@@ -1,7 +1,7 @@
 -- The texts one after another, by whether the primitive is pointed to.
 -- Assumes nothing.
 use Rattle.pen.proofs.Laws.{_▹_, wrote-by}
-use Rattle.leaf_writers.proofs.PartsLaws.{primitive-itself, primitive-pointed}
+use Rattle.leaf_writers.proofs.SignsLaws.{primitive-itself, primitive-pointed}
 use borrow.Author.Needs.{needs}
 use Rattle.leaf_writers.proofs.named.emit_primitive.Statement.{statement}
 use Rattle.leaf_writers.proofs.named.emit_primitive.Tie as tie

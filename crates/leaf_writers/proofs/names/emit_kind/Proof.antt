@@ -4,7 +4,7 @@ use mathlib.Core.Path.{ap, sym}
 use lib.Seq.{length-take-le}
 use Rattle.pen.specs.Page.{writing}
 use Rattle.pen.proofs.Laws.{wrote-by}
-use Rattle.leaf_writers.proofs.WritersLaws.{kind-name, kind-short}
+use Rattle.leaf_writers.proofs.NamesLaws.{kind-name, kind-short}
 use borrow.Author.Needs.{needs}
 use Rattle.leaf_writers.proofs.names.emit_kind.Statement.{statement}
 use Rattle.leaf_writers.proofs.names.emit_kind.Tie as tie

@@ -1,7 +1,7 @@
 -- An empty name, and any other.
 -- Assumes nothing.
 use Rattle.pen.proofs.Laws.{wrote-by}
-use Rattle.leaf_writers.proofs.WritersLaws.{name-omitted, name-itself}
+use Rattle.leaf_writers.proofs.NamesLaws.{name-omitted, name-itself}
 use borrow.Author.Needs.{needs}
 use Rattle.leaf_writers.proofs.names.emit_name_str.Statement.{statement}
 use Rattle.leaf_writers.proofs.names.emit_name_str.Tie as tie

@@ -1,6 +1,6 @@
 -- Three cases: the name starts behind the end, it goes past the end, it is all there.
 -- Assumes nothing.
-use Rattle.leaf_writers.proofs.WritersLaws.{name-past, name-rest, name-whole}
+use Rattle.leaf_writers.proofs.NamesLaws.{name-past, name-rest, name-whole}
 use borrow.Author.Needs.{needs}
 use Rattle.leaf_writers.proofs.names.name_of.Statement.{statement}
 use Rattle.leaf_writers.proofs.names.name_of.Tie as tie

@@ -1,6 +1,6 @@
 -- Both sides of ten are cases of `digit`.
 -- Assumes nothing.
-use Rattle.leaf_writers.proofs.WritersLaws.{digit-small, digit-large}
+use Rattle.leaf_writers.proofs.NamesLaws.{digit-small, digit-large}
 use borrow.Author.Needs.{needs}
 use Rattle.leaf_writers.proofs.numbers.digit.Statement.{statement}
 use Rattle.leaf_writers.proofs.numbers.digit.Tie as tie

@@ -1,7 +1,7 @@
 -- Both cases of the condition.
 -- Assumes nothing.
 use Rattle.pen.proofs.Laws.{wrote-by, wrote-none}
-use Rattle.leaf_writers.proofs.PartsLaws.{text-on, text-off}
+use Rattle.leaf_writers.proofs.SignsLaws.{text-on, text-off}
 use borrow.Author.Needs.{needs}
 use Rattle.leaf_writers.proofs.settings.text_if.Statement.{statement}
 use Rattle.leaf_writers.proofs.settings.text_if.Tie as tie

@@ -3,7 +3,7 @@
 use borrow.Author.Needs.{needs}
 use borrow.Author.Tests.{eq-eqb, ne-eqb}
 use Rattle.rules.specs.Text.{primitiveSize}
-use Rattle.leaf_writers.proofs.WritersLaws.{first-as}
+use Rattle.leaf_writers.proofs.NamesLaws.{first-as}
 use Rattle.primitives.specs.Primitive.{primitives}
 use Rattle.queries.proofs.sizes.get_primitive_size.Statement.{statement}
 use Rattle.queries.proofs.sizes.get_primitive_size.Tie as tie

@@ -4,7 +4,7 @@ use borrow.Author.Needs.{needs}
 use native.Mathlib.Omega.{arith}
 use native.Mathlib.Nat.{mod-lt}
 use Rattle.pen.proofs.Laws.{_▹_, wrote-as, wrote-by, wrote-none, wrote-byte}
-use Rattle.leaf_writers.proofs.WritersLaws.{numeral-none, numeral-one, numeral-more}
+use Rattle.leaf_writers.proofs.NamesLaws.{numeral-none, numeral-one, numeral-more}
 use Rattle.leaf_writers.proofs.numbers.numeral.Reads as numeral
 use Rattle.leaf_writers.proofs.numbers.digit.Reads as digit-reads
 use Rattle.pen.proofs.byte.Reads as byte-reads

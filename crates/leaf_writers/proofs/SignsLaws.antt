@@ -18,7 +18,7 @@ use Rattle.pen.specs.Page.{Page, page, ink, Wrote, writing}
 use Rattle.pen.proofs.Laws.{ink-append, ink-nil, run-say}
 use Rattle.context.specs.declared.levels.PtrAttributes.{PtrAttributes}
 use Rattle.context.specs.Context.{levelOf, levelAt}
-use Rattle.leaf_writers.specs.Parts.{behindWord, constText, spaced, levelText}
+use Rattle.leaf_writers.specs.Signs.{behindWord, constText, spaced, levelText}
 
 -- A text under a condition.
 pub text-on : (b : Bool) (s : List ℕ) → b ≡ true → writing s ≡ writing (pick b s [])

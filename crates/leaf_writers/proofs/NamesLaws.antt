@@ -21,7 +21,7 @@ use Rattle.interpreter.specs.Trace.{tr, refused, count}
 use Rattle.rules.specs.Text.{digit, numeral, functionName, primitiveName, missingMark, unimplementedMark}
 use Rattle.rules.specs.Record.{nameAt}
 use Rattle.pen.specs.Page.{writing}
-use Rattle.leaf_writers.specs.Writers.{markTrace}
+use Rattle.leaf_writers.specs.Marks.{markTrace}
 
 pub digit-small : (n : ℕ) → n < 10 → 48 + n ≡ digit n
 unfolding digit
