@@ -8,7 +8,7 @@ use lib.ListN.{length}
 use lib.Dec.{leb}
 use borrow.Author.Tests.{lt-leb, leb-true}
 use Rattle.wire.specs.Field.{pick, number, field}
-use Rattle.wire.specs.Name.{name, named}
+use Rattle.wire.specs.Name.{name, nameAnswer}
 use Rattle.wire.proofs.Laws.{field-long, map-pick, map-field, map-name, withinName}
 use Rattle.wire.specs.declared.name.Name.{Name}
 use Rattle.wire.specs.declared.name.NameRead.{NameRead}
@@ -121,15 +121,15 @@ goesParts base b e k z = goes (λ (r : PartsRead). byParts r k z) (map-parts (λ
 
 -- A name that was read: its place, and that it ends inside.
 pub isPlace : (base : ℕ) (b : List ℕ) (at : ℕ) {r : NameRead} → r ≡ placed base b at → (n : Name) → r ≡ nameRead.Ended n → (n ≡ place (base + at) (n .len)) × (at + n .len < length b)
-isPlace base b at e n h = go (named b at) refl (goesPlaced ∙ sym e ∙ h)
+isPlace base b at e n h = go (nameAnswer b at) refl (goesPlaced ∙ sym e ∙ h)
   where
     moved : NameRead → NameRead
     moved q = byPlace q (λ m. nameRead.Ended (place (base + at) m)) nameRead.Unended
 
-    goesPlaced : moved (named b at) ≡ placed base b at
+    goesPlaced : moved (nameAnswer b at) ≡ placed base b at
     goesPlaced = map-name moved b at (λ m. nameRead.Ended (place at m)) nameRead.Unended
 
-    go : (q : NameRead) → q ≡ named b at → moved q ≡ nameRead.Ended n → (n ≡ place (base + at) (n .len)) × (at + n .len < length b)
+    go : (q : NameRead) → q ≡ nameAnswer b at → moved q ≡ nameRead.Ended n → (n ≡ place (base + at) (n .len)) × (at + n .len < length b)
     go (nameRead.Ended m) f g =
         let w : place (base + at) (m .len) ≡ n = cc in
         let l = ap (λ (x : Name). x .len) w in

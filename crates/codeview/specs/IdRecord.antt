@@ -41,8 +41,8 @@ module _ (bad : IdRead) (base : ℕ) where
       Good (id.String (record { list = idIndex list; name = place (base + 4) n }))
 
   -- A record of the id stream, by its kind. The fields of 0x1603, 0x1606 and 0x1607 are not read; 7 for a kind that is not listed.
-  unfoldable pub idOf : ℕ → List ℕ → IdRead
-  idOf kind b =
+  unfoldable pub idDataOf : ℕ → List ℕ → IdRead
+  idDataOf kind b =
       pick (eqb kind 0x1601) (functionIdOf b)
       (pick (eqb kind 0x1602) (memberFunctionIdOf b)
       (pick (eqb kind 0x1604) (stringListOf b)

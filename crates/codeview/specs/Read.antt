@@ -7,7 +7,7 @@ use Rattle.wire.specs.Field.{pick}
 use Rattle.primitives.specs.Primitive.{primitives, firstOf}
 use Rattle.streams.specs.Stream.{recordAt, lookUp, part}
 use Rattle.codeview.specs.Record.{typeOf}
-use Rattle.codeview.specs.IdRecord.{idOf}
+use Rattle.codeview.specs.IdRecord.{idDataOf}
 use Rattle.streams.specs.declared.refusal.Refusal.the-variants.{Malformed, Missing, CrossModule}
 use Rattle.streams.specs.declared.stream.Stream.{Stream}
 use Rattle.codeview.specs.declared.record.TypeData.the-variants as type
@@ -46,6 +46,6 @@ typeIn s t at index =
 unfoldable pub readId : List ℕ → Stream → ℕ → IdRead
 readId s t index =
     lookUp s t index
-    (λ kind start end. idOf (id.Refused (Malformed index)) start kind (part s start end))
+    (λ kind start end. idDataOf (id.Refused (Malformed index)) start kind (part s start end))
     (id.Refused (Missing index))
     (id.Refused (CrossModule index))

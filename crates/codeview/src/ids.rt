@@ -2,7 +2,7 @@
 ghost use mathlib.Core.Path.{_≡_};
 ghost use Prim.Native.Nat.{_+_, _<_, _^_};
 ghost use lib.ListN.{length};
-ghost use Rattle.codeview.specs.IdRecord.{functionParts, functionIdOf, memberFunctionIdOf, stringListOf, stringOf, idOf};
+ghost use Rattle.codeview.specs.IdRecord.{functionParts, functionIdOf, memberFunctionIdOf, stringListOf, stringOf, idDataOf};
 ghost use Rattle.codeview.specs.Read.{readId};
 ghost use Rattle.streams.specs.declared.refusal.Refusal.the-variants.{Malformed};
 ghost use Rattle.codeview.specs.declared.record.IdRead.the-variants.{Refused};
@@ -106,7 +106,7 @@ fn string_id(b: &[u8], base: usize, index: u32) -> IdRead
 // A record of the id stream, by its kind: its fields stand at `base`.
 fn decode_id(b: &[u8], base: usize, kind: u16, index: u32) -> IdRead
     requires { ⌜ base + length (now b) < 2 ^ 63 ⌝ }
-    ensures { λ r. ⌜ r ≡ idOf (Refused (Malformed index)) base kind (now (b .entry)) ⌝ }
+    ensures { λ r. ⌜ r ≡ idDataOf (Refused (Malformed index)) base kind (now (b .entry)) ⌝ }
 {
     match kind {
         0x1601 => function_id(b, base, index),

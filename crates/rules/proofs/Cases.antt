@@ -78,7 +78,7 @@ shown (text bs n) = written bs
 shown (stopped f) = refusedBy (numberOf f) (detailOf f)
 
 abbrev pub shownSize : Size → Shown
-shownSize (calls.bytes n) = sizeIs n
+shownSize (calls.sizeBytes n) = sizeIs n
 shownSize (unsized f) = refusedBy (numberOf f) (detailOf f)
 
 pub record Case : Type 0 where

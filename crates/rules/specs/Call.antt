@@ -124,12 +124,12 @@ typeOutcome flags size types index room = within room (typeReading strictly flag
 
 -- What a size call answers: a size or a refusal. Its walk writes one number.
 pub data Size : Type 0 where
-  bytes : ℕ → Size
+  sizeBytes : ℕ → Size
   unsized : Refusal → Size
 
 unfoldable pub sizeAnswer : Outcome → Size
-sizeAnswer (text [] n) = bytes 0
-sizeAnswer (text (b ∷ bs) n) = bytes b
+sizeAnswer (text [] n) = sizeBytes 0
+sizeAnswer (text (b ∷ bs) n) = sizeBytes b
 sizeAnswer (stopped f) = unsized f
 
 unfoldable pub sizeOutcome : ℕ → List ℕ → ℕ → Size
@@ -157,7 +157,7 @@ ofText (text bs n) = accepted (length bs)
 ofText (stopped f) = refusedBy f
 
 unfoldable pub ofSize : Size → Report
-ofSize (bytes n) = accepted n
+ofSize (sizeBytes n) = accepted n
 ofSize (unsized f) = refusedBy f
 
 -- What was noted along a reading: an index opened while open, a limit passed.

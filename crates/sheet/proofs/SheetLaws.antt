@@ -658,7 +658,7 @@ unsized-length n f = rw (told-refused n f (decimal 0)) (refused-room n f (omega 
 
 size-line-length : (n : ℕ) (a : call.Size) → length (sizeLine n (call.ofSize a)) ≤ 4150
 unfolding sizeLine call.ofSize textLine toldLine
-size-line-length n (call.bytes k) = size-room n k (omega arith)
+size-line-length n (call.sizeBytes k) = size-room n k (omega arith)
 size-line-length n (call.unsized f) = unsized-length n f
 
 module _ (types ids sheet : List ℕ) where

@@ -8,7 +8,7 @@ use mathlib.Core.List.{List}
 use lib.ListN.{length, getD}
 use lib.Dec.{leb, ltb, eqb}
 use borrow.Author.Tests.{le-leb, lt-leb, leb-true, ltb-true, ne-eqb}
-use Rattle.wire.specs.Name.{zeroFrom, nameEnd, name, named}
+use Rattle.wire.specs.Name.{zeroFrom, nameEnd, name, nameAnswer}
 use Rattle.wire.specs.Leaf.{payload, leaf}
 use Rattle.wire.specs.declared.name.Name.{Name}
 use Rattle.wire.specs.declared.name.NameRead.{NameRead}
@@ -151,7 +151,7 @@ abbrev byName : {A : Type 0} → NameRead → (ℕ → A) → A → A
 byName (Ended n) k z = k (n .len)
 byName Unended k z = z
 
-name-by : {A : Type 0} (s : List ℕ) (at : ℕ) (k : ℕ → A) (z : A) → name s at k z ≡ byName (named s at) k z
+name-by : {A : Type 0} (s : List ℕ) (at : ℕ) (k : ℕ → A) (z : A) → name s at k z ≡ byName (nameAnswer s at) k z
 unfolding name
 name-by s at k z = sym (map-pick (λ (r : NameRead). byName r k z) (ltb (nameEnd s at) (length s)) (Ended (record { start = at; len = nameEnd s at - at })) Unended)
 
@@ -168,7 +168,7 @@ end-after (suc n) s at = go (eqb (getD s at 0) 0) (end-after n s (at + 1))
     go true h = le-refl at
     go false h = omega arith
 
-module _ (s : List ℕ) (at : ℕ) {r : NameRead} (e : r ≡ named s at) where
+module _ (s : List ℕ) (at : ℕ) {r : NameRead} (e : r ≡ nameAnswer s at) where
   pub readName : (n : Name) → r ≡ Ended n → {A : Type 0} (k : ℕ → A) (z : A) → name s at k z ≡ k (n .len)
   readName n h k z = name-by s at k z ∙ ap (λ (r : NameRead). byName r k z) (sym e ∙ h)
 

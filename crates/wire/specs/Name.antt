@@ -22,5 +22,5 @@ unfoldable pub name : {A : Type 0} → List ℕ → ℕ → (ℕ → A) → A �
 name s at ended unended = pick (ltb (nameEnd s at) (length s)) (ended (nameEnd s at - at)) unended
 
 -- The same, as the code answers it.
-abbrev pub named : List ℕ → ℕ → NameRead
-named s at = name s at (λ n. Ended (record { start = at; len = n })) Unended
+abbrev pub nameAnswer : List ℕ → ℕ → NameRead
+nameAnswer s at = name s at (λ n. Ended (record { start = at; len = n })) Unended

@@ -1,6 +1,6 @@
 // Zero-ended names, as places of the slice that they were read in.
 ghost use mathlib.Core.Path.{_≡_};
-ghost use Rattle.wire.specs.Name.{named};
+ghost use Rattle.wire.specs.Name.{nameAnswer};
 
 // The bytes of a name: where they start and how many there are, without the closing zero.
 pub struct Name {
@@ -15,7 +15,7 @@ pub enum NameRead {
 
 // The name at a place, up to the first zero.
 pub fn name_at(s: &[u8], at: usize) -> NameRead
-    ensures { λ r. ⌜ r ≡ named (now (s .entry)) at ⌝ }
+    ensures { λ r. ⌜ r ≡ nameAnswer (now (s .entry)) at ⌝ }
 {
     let mut end = at;
     while end < s.len() {

@@ -1,7 +1,7 @@
 -- By the kind: each listed kind's own reading, and no other.
 -- Assumes nothing.
 use borrow.Author.Tests.{ne-eqb}
-use Rattle.codeview.specs.IdRecord.{idOf}
+use Rattle.codeview.specs.IdRecord.{idDataOf}
 use borrow.Author.Needs.{needs}
 use Rattle.codeview.proofs.ids.decode_id.Statement.{statement}
 use Rattle.codeview.proofs.ids.decode_id.Tie as tie
@@ -19,35 +19,35 @@ string-id-requires : tie.Need-string-id-requires
 string-id-requires c κs = search needs
 
 returns : tie.Need-returns
-unfolding idOf
+unfolding idDataOf
 returns c = rw (c .before .match .keys1, c .function-id .ensures)
 
 returns-2 : tie.Need-returns-2
-unfolding idOf
+unfolding idDataOf
 returns-2 c = rw (c .before .match .keys2, c .member-function-id .ensures)
 
 returns-3 : tie.Need-returns-3
-unfolding idOf
+unfolding idDataOf
 returns-3 c = rw (c .before .match .keys3, c .string-list .ensures)
 
 returns-4 : tie.Need-returns-4
-unfolding idOf
+unfolding idDataOf
 returns-4 c = rw (c .before .match .keys4, c .string-id .ensures)
 
 returns-5 : tie.Need-returns-5
-unfolding idOf
+unfolding idDataOf
 returns-5 c = rw (c .match .keys5)
 
 returns-6 : tie.Need-returns-6
-unfolding idOf
+unfolding idDataOf
 returns-6 c = rw (c .match .keys6)
 
 returns-7 : tie.Need-returns-7
-unfolding idOf
+unfolding idDataOf
 returns-7 c = rw (c .match .keys7)
 
 returns-8 : tie.Need-returns-8
-unfolding idOf
+unfolding idDataOf
 returns-8 c = simp (ne-eqb _ _ (c .match .rest .1), ne-eqb _ _ (c .match .rest .0 .1), ne-eqb _ _ (c .match .rest .0 .0 .1), ne-eqb _ _ (c .match .rest .0 .0 .0 .1), ne-eqb _ _ (c .match .rest .0 .0 .0 .0 .1), ne-eqb _ _ (c .match .rest .0 .0 .0 .0 .0 .1), ne-eqb _ _ (c .match .rest .0 .0 .0 .0 .0 .0 .1))
 
 pub decode-id-spec : {M : Type 1} → statement M
