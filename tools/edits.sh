@@ -18,4 +18,4 @@ for crate in "$@"; do
     cp "$crate"/*.edit "$work/crates/$crate/must-fail"
 done
 cd "$work"
-rt must-fail
+rt must-fail "$@"
