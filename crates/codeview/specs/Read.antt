@@ -5,11 +5,14 @@ use lib.Dec.{leb, ltb}
 use lib.ListN.{take}
 use Rattle.wire.specs.Field.{pick}
 use Rattle.primitives.specs.Primitive.{primitives, firstOf}
-use Rattle.streams.specs.Stream.{recordAt, lookUp, part}
+use Rattle.streams.specs.Stream.{recordAt, firstRecord, lookFrom, part}
+use Rattle.streams.specs.Places.{nearest}
 use Rattle.codeview.specs.Record.{typeOf}
 use Rattle.codeview.specs.IdRecord.{idDataOf}
 use Rattle.streams.specs.declared.refusal.Refusal.the-variants.{Malformed, Missing, CrossModule}
 use Rattle.streams.specs.declared.stream.Stream.{Stream}
+use Rattle.streams.specs.declared.stream.Cursor.{Cursor}
+use Rattle.streams.specs.declared.places.Layout.{Layout}
 use Rattle.codeview.specs.declared.record.TypeData.the-variants as type
 use Rattle.codeview.specs.declared.record.TypeRead.{TypeRead}
 use Rattle.codeview.specs.declared.record.TypeRead.the-variants.{Good, Refused}
@@ -25,15 +28,23 @@ primitiveOf index =
     (Refused (Missing index)))
     (Refused (Missing index))
 
--- What a type index stands for in a checked stream.
-unfoldable pub readType : List ℕ → Stream → ℕ → TypeRead
-readType s t index =
+-- What a type index stands for, by the walk from a record that stands before it.
+unfoldable pub typeFrom : List ℕ → Stream → Cursor → ℕ → TypeRead
+typeFrom s t from index =
     pick (ltb index 0x1000)
     (primitiveOf index)
-    (lookUp s t index
+    (lookFrom s t from index
     (λ kind start end. typeOf (Refused (Malformed index)) start kind (part s start end))
     (Refused (Missing index))
     (Refused (CrossModule index)))
+
+-- What a type index stands for in a checked stream.
+abbrev pub readType : List ℕ → Stream → ℕ → TypeRead
+readType s t index = typeFrom s t (firstRecord t) index
+
+-- The same by places, whatever they are: the walk starts at the nearest.
+abbrev pub readTypeBy : Layout → List ℕ → List ℕ → Stream → ℕ → TypeRead
+readTypeBy l ps s t index = typeFrom s t (nearest l ps t index) index
 
 -- The same where the place of the index's record is known.
 unfoldable pub typeIn : List ℕ → Stream → ℕ → ℕ → TypeRead
@@ -42,10 +53,16 @@ typeIn s t at index =
     (λ kind start end. typeOf (Refused (Malformed index)) start kind (part s start end))
     (Refused (Missing index))
 
--- What an id index stands for in a checked stream.
-unfoldable pub readId : List ℕ → Stream → ℕ → IdRead
-readId s t index =
-    lookUp s t index
+-- What an id index stands for, by such a walk; in a checked stream; and by places.
+unfoldable pub idFrom : List ℕ → Stream → Cursor → ℕ → IdRead
+idFrom s t from index =
+    lookFrom s t from index
     (λ kind start end. idDataOf (id.Refused (Malformed index)) start kind (part s start end))
     (id.Refused (Missing index))
     (id.Refused (CrossModule index))
+
+abbrev pub readId : List ℕ → Stream → ℕ → IdRead
+readId s t index = idFrom s t (firstRecord t) index
+
+abbrev pub readIdBy : Layout → List ℕ → List ℕ → Stream → ℕ → IdRead
+readIdBy l ps s t index = idFrom s t (nearest l ps t index) index

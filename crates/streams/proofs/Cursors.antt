@@ -5,7 +5,7 @@ use mathlib.Core.Path.{_≡_, refl, sym, _∙_, ap}
 use mathlib.Core.List.{List}
 use lib.ListN.{take}
 use borrow.Author.Tests.{lt-leb, le-ltb}
-use Rattle.streams.specs.Stream.{passed, recordAt, firstRecord, walkFrom, lookUp}
+use Rattle.streams.specs.Stream.{passed, recordAt, walkFrom, lookFrom}
 use Rattle.streams.specs.declared.stream.Stream.{Stream}
 use Rattle.streams.specs.declared.stream.Cursor.{Cursor}
 use Rattle.streams.specs.declared.stream.CursorRead.{CursorRead}
@@ -92,6 +92,6 @@ module _ (s : List ℕ) (t : Stream) (from : Cursor) (i : ℕ) where
           omega arith
 
 -- What a cursor says of the look-up of its index.
-pub look-cursor : (s : List ℕ) (t : Stream) (i : ℕ) {r v : CursorRead} → r ≡ cursorFrom s t (firstRecord t) i → r ≡ v → {A : Type 0} (k : ℕ → ℕ → ℕ → A) (m x : A) → lookUp s t i k m x ≡ byCursor v (λ c. recordAt (take (t .stop) s) (c .at) k m) m x
-unfolding lookUp
-look-cursor s t i e h k m x = walk-by s t (firstRecord t) i e h (λ c. recordAt (take (t .stop) s) (c .at) k m) m x
+pub look-cursor : (s : List ℕ) (t : Stream) (from : Cursor) (i : ℕ) {r v : CursorRead} → r ≡ cursorFrom s t from i → r ≡ v → {A : Type 0} (k : ℕ → ℕ → ℕ → A) (m x : A) → lookFrom s t from i k m x ≡ byCursor v (λ c. recordAt (take (t .stop) s) (c .at) k m) m x
+unfolding lookFrom
+look-cursor s t from i e h k m x = walk-by s t from i e h (λ c. recordAt (take (t .stop) s) (c .at) k m) m x

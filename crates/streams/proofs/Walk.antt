@@ -1,5 +1,5 @@
 -- Laws of the walk over records: what its answer says, and where it stays. Assumes nothing.
-use Prim.Native.Nat.{ℕ, zero, suc, _+_, _-_, _≤_, _<_, min}
+use Prim.Native.Nat.{ℕ, zero, suc, _+_, _-_, _*_, _≤_, _<_, min}
 use native.Mathlib.Nat.{not-suc-le-zero, zero-add, suc-add, zero-min, suc-min-suc}
 use native.Mathlib.Omega.{arith}
 use mathlib.Core.Path.{_≡_, refl, sym, _∙_, ap, fun-ext}
@@ -11,7 +11,7 @@ use lib.Dec.{leb, ltb, eqb}
 use borrow.Author.Tests.{leb-true, leb-false, ltb-false}
 use Rattle.wire.specs.Field.{pick, number, field}
 use Rattle.wire.proofs.Laws.{map-pick, map-field, all-field}
-use Rattle.streams.specs.Stream.{indexes, header, behind, passed, recordAt, firstRecord, walkFrom, lookUp}
+use Rattle.streams.specs.Stream.{indexes, header, behind, passed, recordAt, walkFrom, lookFrom}
 use Rattle.streams.specs.declared.stream.Stream.{Stream}
 use Rattle.streams.specs.declared.stream.Cursor.{Cursor}
 use Rattle.streams.specs.declared.stream.Head.{Head}
@@ -84,11 +84,11 @@ map-walk {A} {B} f s t from i k m x =
     ∙ ap (λ (y : B). pick (leb (t .end) i) (f m) y)
     (map-passed f (take (t .stop) s) (i - from .index) (from .at) (λ at. k (record { index = i; at = at })) m)))
 
-map-look : {A B : Type 0} (f : A → B) (s : List ℕ) (t : Stream) (i : ℕ) (k : ℕ → ℕ → ℕ → A) (m x : A) → f (lookUp s t i k m x) ≡ lookUp s t i (λ a b c. f (k a b c)) (f m) (f x)
-unfolding lookUp
-map-look {A} {B} f s t i k m x =
-    map-walk f s t (firstRecord t) i (λ c. recordAt (take (t .stop) s) (c .at) k m) m x
-    ∙ ap (λ (g : Cursor → B). walkFrom s t (firstRecord t) i g (f m) (f x)) (fun-ext (λ c. map-record f (take (t .stop) s) (c .at) k m))
+map-look : {A B : Type 0} (f : A → B) (s : List ℕ) (t : Stream) (from : Cursor) (i : ℕ) (k : ℕ → ℕ → ℕ → A) (m x : A) → f (lookFrom s t from i k m x) ≡ lookFrom s t from i (λ a b c. f (k a b c)) (f m) (f x)
+unfolding lookFrom
+map-look {A} {B} f s t from i k m x =
+    map-walk f s t from i (λ c. recordAt (take (t .stop) s) (c .at) k m) m x
+    ∙ ap (λ (g : Cursor → B). walkFrom s t from i g (f m) (f x)) (fun-ext (λ c. map-record f (take (t .stop) s) (c .at) k m))
 
 -- What follows, said of the answer.
 abbrev by : {A : Type 0} → Place → (ℕ → A) → A → A
@@ -138,6 +138,34 @@ unfolding passed
 passed-on zero n s at k z = simp zero-add
 passed-on {A} (suc m) n s at k z = rw suc-add (ap (λ (g : ℕ → A). behind s at g z) (fun-ext (λ next. passed-on m n s next k z)))
 
+-- A walk of one record more ends with that record.
+pub passed-last : {A : Type 0} (n : ℕ) (s : List ℕ) (at : ℕ) (k : ℕ → A) (z : A) → passed (suc n) s at k z ≡ passed n s at (λ at. behind s at k z) z
+unfolding passed
+passed-last zero s at k z = refl
+passed-last {A} (suc n) s at k z = ap (λ (g : ℕ → A). behind s at g z) (fun-ext (λ next. passed-last n s next k z))
+
+-- Where a run is passed, a walk over it and what follows goes on from its end.
+pub passed-from : {A : Type 0} (m n : ℕ) (s : List ℕ) (at x : ℕ) → passed m s at At Beyond ≡ At x → (k : ℕ → A) (z : A) → passed (m + n) s at k z ≡ passed n s x k z
+passed-from m n s at x e k z = passed-on m n s at k z ∙ passed-at m s at refl x e (λ at. passed n s at k z) z
+
+-- A walk stays below whatever bounds its start and the stream.
+pub passed-bound : (n : ℕ) (s : List ℕ) (at b x : ℕ) → at ≤ b → length s ≤ b → passed n s at At Beyond ≡ At x → x ≤ b
+unfolding passed
+passed-bound zero s at b x h i e = let w : at ≡ x = cc in omega arith
+passed-bound (suc n) s at b x h i e =
+    behind-all (λ (p : Place). p ≡ At x → x ≤ b) s at (λ at. passed n s at At Beyond) Beyond
+    (λ next j k q. passed-bound n s next b x (omega arith) i q)
+    (λ q. let w : _≡_ {A = ℕ} 0 1 = cc in absurd (omega arith)) e
+
+-- Each record has at least four bytes.
+pub passed-grows : (n : ℕ) (s : List ℕ) (at x : ℕ) → passed n s at At Beyond ≡ At x → at + 4 * n ≤ x
+unfolding passed
+passed-grows zero s at x e = let w : at ≡ x = cc in omega arith
+passed-grows (suc n) s at x e =
+    behind-all (λ (p : Place). p ≡ At x → at + 4 * suc n ≤ x) s at (λ at. passed n s at At Beyond) Beyond
+    (λ next j k q. omega (arith, passed-grows n s next x q))
+    (λ q. let w : _≡_ {A = ℕ} 0 1 = cc in absurd (omega arith)) e
+
 -- Whatever holds of every answer that an index of the stream can give, and of the two others, holds of what follows from a walk.
 pub walk-all : {A : Type 0} (P : A → Type 0) (s : List ℕ) (t : Stream) (from : Cursor) (i : ℕ) (k : Cursor → A) (m x : A) → ((at : ℕ) → from .index ≤ i → i < t .end → i < 0x8000_0000 → P (k (record { index = i; at = at }))) → P m → P x → P (walkFrom s t from i k m x)
 unfolding walkFrom
@@ -152,10 +180,10 @@ walk-all P s t from i k m x f p q = go (leb 0x8000_0000 i) (ltb i (from .index))
         (λ at. f at (ltb-false i (from .index) e) (leb-false (t .end) i h) (leb-false 0x8000_0000 i d)) p
 
 -- The fields of a record that was looked up lie inside the stream.
-pub look-within : (s : List ℕ) (t : Stream) (i : ℕ) {r : Found} → r ≡ lookUp s t i Record Missing CrossModule → (kind start end : ℕ) → r ≡ Record kind start end → (start ≤ end) × (end ≤ length s)
-unfolding lookUp
-look-within s t i e kind start end h =
-    walk-all Inside s t (firstRecord t) i (λ c. recordAt (take (t .stop) s) (c .at) Record Missing) Missing CrossModule
+pub look-within : (s : List ℕ) (t : Stream) (from : Cursor) (i : ℕ) {r : Found} → r ≡ lookFrom s t from i Record Missing CrossModule → (kind start end : ℕ) → r ≡ Record kind start end → (start ≤ end) × (end ≤ length s)
+unfolding lookFrom
+look-within s t from i e kind start end h =
+    walk-all Inside s t from i (λ c. recordAt (take (t .stop) s) (c .at) Record Missing) Missing CrossModule
     (λ at a b c. recordAt-all Inside (take (t .stop) s) at Record Missing
     (λ kd a b i j q. let v : a ≡ start = cc in let w : b ≡ end = cc in (omega arith, omega (arith, length-take (t .stop) s)))
     none) none
@@ -215,6 +243,14 @@ module _ (s : List ℕ) {r : Head} (e : r ≡ header s head.Good head.Broken) wh
       (λ x y z i j q. let u : x ≡ a = cc in let v : y ≡ b = cc in let w : z ≡ c = cc in (omega arith, omega arith))
       (λ q. let w : _≡_ {A = ℕ} 0 1 = cc in absurd (omega arith)) (sym e ∙ h)
 
+pub header-small : (s : List ℕ) {r : Head} → r ≡ header s head.Good head.Broken → (a b c : ℕ) → r ≡ head.Good a b c → length s ≤ 16_777_216
+unfolding header
+header-small s e a b c h = go (leb (length s) 16_777_216) refl (sym e ∙ h)
+  where
+    go : (d : Bool) → leb (length s) 16_777_216 ≡ d → pick d (pick (leb 56 (length s)) (field 4 s 4 (λ size. pick (eqb size 56) (indexes s head.Good head.Broken) head.Broken) head.Broken) head.Broken) head.Broken ≡ head.Good a b c → length s ≤ 16_777_216
+    go true i q = leb-true (length s) 16_777_216 i
+    go false i q = let w : _≡_ {A = ℕ} 0 1 = cc in absurd (omega arith)
+
 -- A part up to a stop, or up to the end where that comes first.
 pub take-shorter : (s : List ℕ) (n : ℕ) → take (min n (length s)) s ≡ take n s
 take-shorter [] zero = take-nil (min 0 0)
@@ -228,9 +264,9 @@ byFound (Record a b c) k m x = k a b c
 byFound Missing k m x = m
 byFound CrossModule k m x = x
 
-module _ (s : List ℕ) (t : Stream) (i : ℕ) {r : Found} (e : r ≡ lookUp s t i Record Missing CrossModule) where
-  pub look-by : {v : Found} → r ≡ v → {A : Type 0} (k : ℕ → ℕ → ℕ → A) (m x : A) → lookUp s t i k m x ≡ byFound v k m x
-  look-by h k m x = sym (map-look (λ (r : Found). byFound r k m x) s t i Record Missing CrossModule) ∙ ap (λ (r : Found). byFound r k m x) (sym e ∙ h)
+module _ (s : List ℕ) (t : Stream) (from : Cursor) (i : ℕ) {r : Found} (e : r ≡ lookFrom s t from i Record Missing CrossModule) where
+  pub look-by : {v : Found} → r ≡ v → {A : Type 0} (k : ℕ → ℕ → ℕ → A) (m x : A) → lookFrom s t from i k m x ≡ byFound v k m x
+  look-by h k m x = sym (map-look (λ (r : Found). byFound r k m x) s t from i Record Missing CrossModule) ∙ ap (λ (r : Found). byFound r k m x) (sym e ∙ h)
 
 -- What the record at a place says of all that goes by it, and where its fields lie.
 module _ (s : List ℕ) (at : ℕ) {r : Found} (e : r ≡ recordAt s at Record Missing) where

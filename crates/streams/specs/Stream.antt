@@ -80,10 +80,14 @@ walkFrom s t from index found missing crossModule =
 abbrev pub firstRecord : Stream → Cursor
 firstRecord t = record { index = t .first; at = 56 }
 
--- What follows from an index: its record is handed on.
-unfoldable pub lookUp : {A : Type 0} → List ℕ → Stream → ℕ → (ℕ → ℕ → ℕ → A) → A → A → A
-lookUp s t index found missing crossModule =
-    walkFrom s t (firstRecord t) index (λ c. recordAt (take (t .stop) s) (c .at) found missing) missing crossModule
+-- What follows from an index, by the same walk: its record is handed on.
+unfoldable pub lookFrom : {A : Type 0} → List ℕ → Stream → Cursor → ℕ → (ℕ → ℕ → ℕ → A) → A → A → A
+lookFrom s t from index found missing crossModule =
+    walkFrom s t from index (λ c. recordAt (take (t .stop) s) (c .at) found missing) missing crossModule
+
+-- The same from the first record on: what an index stands for.
+abbrev pub lookUp : {A : Type 0} → List ℕ → Stream → ℕ → (ℕ → ℕ → ℕ → A) → A → A → A
+lookUp s t index found missing crossModule = lookFrom s t (firstRecord t) index found missing crossModule
 
 -- The bytes from a place up to another.
 unfoldable pub part : List ℕ → ℕ → ℕ → List ℕ

@@ -2,13 +2,12 @@
 ghost use mathlib.Core.Path.{_≡_};
 ghost use Prim.Native.Nat.{_+_, _≤_, min};
 ghost use lib.ListN.{length, take};
-ghost use Rattle.streams.specs.Stream.{indexes, header, behind, passed, tiled, checked, recordAt, firstRecord, walkFrom, lookUp};
+ghost use Rattle.streams.specs.Stream.{indexes, header, behind, passed, recordAt, walkFrom};
 ghost use Rattle.streams.specs.declared.stream.Head.the-variants as head;
 ghost use Rattle.streams.specs.declared.stream.Place.the-variants.{At, Beyond};
 ghost use Rattle.streams.specs.declared.stream.CursorRead.the-variants as cursor;
 ghost use Rattle.streams.specs.declared.stream.Found.the-variants as found;
 use crate::refusal::Refusal;
-use crate::refusal::StreamKind;
 use wire::field::Field16;
 use wire::field::Field32;
 
@@ -44,13 +43,13 @@ pub enum CursorRead {
     CrossModule,
 }
 
-enum Head {
+pub enum Head {
     Good(u32, u32, usize),
     Broken,
 }
 
 // A place that a walk over records came to, or that it went past their end.
-enum Place {
+pub enum Place {
     At(usize),
     Beyond,
 }
@@ -83,7 +82,7 @@ fn indexes_of(s: &[u8]) -> Head
     Head::Good(first, end, 56 + (bytes as usize))
 }
 
-fn header_of(s: &[u8]) -> Head
+pub fn header_of(s: &[u8]) -> Head
     ensures { λ r. ⌜ r ≡ header (now (s .entry)) head.Good head.Broken ⌝ }
 {
     if 16_777_216 < s.len() {
@@ -102,7 +101,7 @@ fn header_of(s: &[u8]) -> Head
 }
 
 // The place behind the record at a place.
-fn behind_record(s: &[u8], at: usize) -> Place
+pub fn behind_record(s: &[u8], at: usize) -> Place
     ensures { λ r. ⌜ r ≡ behind (now (s .entry)) at At Beyond ⌝ }
 {
     let Field16::Value(len) = wire::field::u16_at(s, at) else {
@@ -120,7 +119,7 @@ fn behind_record(s: &[u8], at: usize) -> Place
 }
 
 // The place behind `count` records from a place on.
-fn behind_records(s: &[u8], from: usize, count: u32) -> Place
+pub fn behind_records(s: &[u8], from: usize, count: u32) -> Place
     ensures { λ r. ⌜ r ≡ passed count (now (s .entry)) from At Beyond ⌝ }
 {
     let mut at = from;
@@ -133,29 +132,6 @@ fn behind_records(s: &[u8], from: usize, count: u32) -> Place
         left -= 1;
     }
     Place::At(at)
-}
-
-fn tiles(s: &[u8], count: u32) -> bool
-    ensures { λ r. ⌜ r ≡ tiled count (now (s .entry)) ⌝ }
-{
-    let Place::At(at) = behind_records(s, 56, count) else {
-        return false;
-    };
-    at == s.len()
-}
-
-// The check of a stream: its header, then its records, in one pass over their heads.
-pub fn check_stream(s: &[u8], which: StreamKind) -> StreamCheck
-    ensures { λ r. ⌜ r ≡ checked which (now (s .entry)) ⌝ }
-{
-    let Head::Good(first, end, stop) = header_of(s) else {
-        return StreamCheck::Refused(Refusal::Header(which));
-    };
-    if tiles(&s[..stop], end - first) {
-        StreamCheck::Good(Stream { first, end, stop })
-    } else {
-        StreamCheck::Refused(Refusal::Tiling(which))
-    }
 }
 
 // The record at a place.
@@ -190,7 +166,7 @@ pub fn records_of<'a>(s: &'a [u8], stream: Stream) -> &'a [u8]
 }
 
 // The walk from a record to that of an index.
-fn walk_from(s: &[u8], stream: Stream, from: Cursor, index: u32) -> CursorRead
+pub fn walk_from(s: &[u8], stream: Stream, from: Cursor, index: u32) -> CursorRead
     ensures { λ r. ⌜ r ≡ walkFrom (now (s .entry)) stream from index cursor.At cursor.Missing cursor.CrossModule ⌝ }
 {
     let first = from.index;
@@ -210,17 +186,6 @@ fn walk_from(s: &[u8], stream: Stream, from: Cursor, index: u32) -> CursorRead
     CursorRead::At(Cursor { index, at })
 }
 
-// Where the record of an index stands.
-pub fn cursor_at(s: &[u8], stream: Stream, index: u32) -> CursorRead
-    ensures { λ r. ⌜ r ≡ walkFrom (now (s .entry)) stream (firstRecord stream) index cursor.At cursor.Missing cursor.CrossModule ⌝ }
-{
-    let first = Cursor {
-        index: stream.first,
-        at: 56,
-    };
-    walk_from(s, stream, first, index)
-}
-
 // Where the record of the next index stands.
 pub fn next_cursor(s: &[u8], stream: Stream, c: Cursor) -> CursorRead
     ensures { λ r. ⌜ r ≡ walkFrom (now (s .entry)) stream c (c .index + 1) cursor.At cursor.Missing cursor.CrossModule ⌝ }
@@ -229,15 +194,4 @@ pub fn next_cursor(s: &[u8], stream: Stream, c: Cursor) -> CursorRead
         return CursorRead::CrossModule;
     }
     walk_from(s, stream, c, c.index + 1)
-}
-
-// The record of an index of a checked stream.
-pub fn look_up(s: &[u8], stream: Stream, index: u32) -> Found
-    ensures { λ r. ⌜ r ≡ lookUp (now (s .entry)) stream index found.Record found.Missing found.CrossModule ⌝ }
-{
-    match cursor_at(s, stream, index) {
-        CursorRead::At(c) => record_at(records_of(s, stream), c.at),
-        CursorRead::Missing => Found::Missing,
-        CursorRead::CrossModule => Found::CrossModule,
-    }
 }

@@ -2,7 +2,7 @@
 -- Assumes nothing.
 use denote.Ref.{now}
 use Rattle.streams.specs.Stream.{part}
-use Rattle.codeview.specs.Read.{readId}
+use Rattle.codeview.specs.Read.{idFrom}
 use Rattle.streams.proofs.Walk.{look-by, look-within, part-end}
 use native.Mathlib.Omega.{arith}
 use borrow.Author.Needs.{needs}
@@ -16,16 +16,16 @@ enum-known-kind : tie.Need-enum-known-kind
 enum-known-kind c = search needs
 
 sub-decode-id : tie.Need-sub-decode-id
-sub-decode-id c = omega (arith, look-within _ _ _ (c .before .before .before .look-up .ensures) _ _ _ (c .before .kind .given .1))
+sub-decode-id c = omega (arith, look-within _ _ _ _ (c .before .before .before .look-up .ensures) _ _ _ (c .before .kind .given .1))
 
 part-decode-id-start : tie.Need-part-decode-id-start
-part-decode-id-start c = omega (arith, look-within _ _ _ (c .before .before .before .look-up .ensures) _ _ _ (c .before .kind .given .1))
+part-decode-id-start c = omega (arith, look-within _ _ _ _ (c .before .before .before .look-up .ensures) _ _ _ (c .before .kind .given .1))
 
 part-decode-id-end : tie.Need-part-decode-id-end
-part-decode-id-end c = omega (arith, look-within _ _ _ (c .before .before .before .look-up .ensures) _ _ _ (c .before .kind .given .1))
+part-decode-id-end c = omega (arith, look-within _ _ _ _ (c .before .before .before .look-up .ensures) _ _ _ (c .before .kind .given .1))
 
 decode-id-requires : tie.Need-decode-id-requires
-decode-id-requires c κs = omega (arith, part-end (now (c .before .before .before .before .before .before .args .s)) (c .before .before .kind .given .0 .1 .0) (c .before .before .kind .given .0 .1 .1 .0) (look-within _ _ _ (c .before .before .before .before .look-up .ensures) _ _ _ (c .before .before .kind .given .1)), look-within _ _ _ (c .before .before .before .before .look-up .ensures) _ _ _ (c .before .before .kind .given .1), c .before .before .before .before .before .before .good)
+decode-id-requires c κs = omega (arith, part-end (now (c .before .before .before .before .before .before .before .args .s)) (c .before .before .kind .given .0 .1 .0) (c .before .before .kind .given .0 .1 .1 .0) (look-within _ _ _ _ (c .before .before .before .before .look-up .ensures) _ _ _ (c .before .before .kind .given .1)), look-within _ _ _ _ (c .before .before .before .before .look-up .ensures) _ _ _ (c .before .before .kind .given .1), c .before .before .before .before .before .before .before .good .0)
 
 enum-told : tie.Need-enum-told
 enum-told c = search needs
@@ -34,16 +34,16 @@ enum-told-2 : tie.Need-enum-told-2
 enum-told-2 c = search needs
 
 returns : tie.Need-returns
-unfolding readId part
-returns c = rw (look-by _ _ _ (c .before .before .before .before .before .look-up .ensures) (c .before .before .before .kind .given .1), c .decode-id .ensures)
+unfolding idFrom part
+returns c = rw (look-by _ _ _ _ (c .before .before .before .before .before .look-up .ensures) (c .before .before .before .kind .given .1), c .decode-id .ensures)
 
 returns-2 : tie.Need-returns-2
-unfolding readId
-returns-2 c = rw (look-by _ _ _ (c .before .before .look-up .ensures) (c .enum-told .given .1))
+unfolding idFrom
+returns-2 c = rw (look-by _ _ _ _ (c .before .before .look-up .ensures) (c .enum-told .given .1))
 
 returns-3 : tie.Need-returns-3
-unfolding readId
-returns-3 c = rw (look-by _ _ _ (c .before .before .look-up .ensures) (c .enum-told2 .given .1))
+unfolding idFrom
+returns-3 c = rw (look-by _ _ _ _ (c .before .before .look-up .ensures) (c .enum-told2 .given .1))
 
 pub id-at-spec : {M : Type 1} → statement M
 id-at-spec =

@@ -3,7 +3,7 @@
 use borrow.Author.Tests.{lt-ltb, le-ltb}
 use denote.Ref.{now}
 use Rattle.streams.specs.Stream.{part}
-use Rattle.codeview.specs.Read.{readType}
+use Rattle.codeview.specs.Read.{typeFrom}
 use Rattle.streams.proofs.Walk.{look-by, look-within, part-end}
 use native.Mathlib.Omega.{arith}
 use borrow.Author.Needs.{needs}
@@ -14,7 +14,7 @@ primitive-type-requires : tie.Need-primitive-type-requires
 primitive-type-requires c κs = search needs
 
 returns : tie.Need-returns
-unfolding readType
+unfolding typeFrom
 returns c = rw (lt-ltb _ _ (c .before .if1 .taken), c .primitive-type .ensures)
 
 look-up-requires : tie.Need-look-up-requires
@@ -24,16 +24,16 @@ enum-known-kind : tie.Need-enum-known-kind
 enum-known-kind c = search needs
 
 sub-decode-type : tie.Need-sub-decode-type
-sub-decode-type c = omega (arith, look-within _ _ _ (c .before .before .before .look-up .ensures) _ _ _ (c .before .kind .given .1))
+sub-decode-type c = omega (arith, look-within _ _ _ _ (c .before .before .before .look-up .ensures) _ _ _ (c .before .kind .given .1))
 
 part-decode-type-start : tie.Need-part-decode-type-start
-part-decode-type-start c = omega (arith, look-within _ _ _ (c .before .before .before .look-up .ensures) _ _ _ (c .before .kind .given .1))
+part-decode-type-start c = omega (arith, look-within _ _ _ _ (c .before .before .before .look-up .ensures) _ _ _ (c .before .kind .given .1))
 
 part-decode-type-end : tie.Need-part-decode-type-end
-part-decode-type-end c = omega (arith, look-within _ _ _ (c .before .before .before .look-up .ensures) _ _ _ (c .before .kind .given .1))
+part-decode-type-end c = omega (arith, look-within _ _ _ _ (c .before .before .before .look-up .ensures) _ _ _ (c .before .kind .given .1))
 
 decode-type-requires : tie.Need-decode-type-requires
-decode-type-requires c κs = omega (arith, part-end (now (c .before .before .before .before .before .before .before .args .s)) (c .before .before .kind .given .0 .1 .0) (c .before .before .kind .given .0 .1 .1 .0) (look-within _ _ _ (c .before .before .before .before .look-up .ensures) _ _ _ (c .before .before .kind .given .1)), look-within _ _ _ (c .before .before .before .before .look-up .ensures) _ _ _ (c .before .before .kind .given .1), c .before .before .before .before .before .before .before .good)
+decode-type-requires c κs = omega (arith, part-end (now (c .before .before .before .before .before .before .before .before .args .s)) (c .before .before .kind .given .0 .1 .0) (c .before .before .kind .given .0 .1 .1 .0) (look-within _ _ _ _ (c .before .before .before .before .look-up .ensures) _ _ _ (c .before .before .kind .given .1)), look-within _ _ _ _ (c .before .before .before .before .look-up .ensures) _ _ _ (c .before .before .kind .given .1), c .before .before .before .before .before .before .before .before .good .0)
 
 enum-told : tie.Need-enum-told
 enum-told c = search needs
@@ -42,16 +42,16 @@ enum-told-2 : tie.Need-enum-told-2
 enum-told-2 c = search needs
 
 returns-2 : tie.Need-returns-2
-unfolding readType part
-returns-2 c = rw (le-ltb _ _ (c .before .before .before .before .before .before .if1 .left), look-by _ _ _ (c .before .before .before .before .before .look-up .ensures) (c .before .before .before .kind .given .1), c .decode-type .ensures)
+unfolding typeFrom part
+returns-2 c = rw (le-ltb _ _ (c .before .before .before .before .before .before .if1 .left), look-by _ _ _ _ (c .before .before .before .before .before .look-up .ensures) (c .before .before .before .kind .given .1), c .decode-type .ensures)
 
 returns-3 : tie.Need-returns-3
-unfolding readType
-returns-3 c = rw (le-ltb _ _ (c .before .before .before .if1 .left), look-by _ _ _ (c .before .before .look-up .ensures) (c .enum-told .given .1))
+unfolding typeFrom
+returns-3 c = rw (le-ltb _ _ (c .before .before .before .if1 .left), look-by _ _ _ _ (c .before .before .look-up .ensures) (c .enum-told .given .1))
 
 returns-4 : tie.Need-returns-4
-unfolding readType
-returns-4 c = rw (le-ltb _ _ (c .before .before .before .if1 .left), look-by _ _ _ (c .before .before .look-up .ensures) (c .enum-told2 .given .1))
+unfolding typeFrom
+returns-4 c = rw (le-ltb _ _ (c .before .before .before .if1 .left), look-by _ _ _ _ (c .before .before .look-up .ensures) (c .enum-told2 .given .1))
 
 pub type-at-spec : {M : Type 1} → statement M
 type-at-spec =

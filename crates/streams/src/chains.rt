@@ -1,0 +1,406 @@
+// The check of a stream in four chains of records from guessed starts. A guess that is wrong costs time and changes no answer.
+ghost use mathlib.Core.Path.{_≡_};
+ghost use Prim.Native.Nat.{ℕ, _≤_, _<_, _+_, _*_};
+ghost use lib.ListN.{length};
+ghost use Rattle.streams.specs.Chains.{Linked, Dued, FourBehind, Stretched, Stepped, Finished, ChainedFor};
+ghost use Rattle.streams.specs.Places.{NotedFor};
+ghost use Rattle.streams.specs.declared.stream.Place.the-variants.{At, Beyond};
+use crate::places::Layout;
+use crate::places::NotedCheck;
+use crate::places::check_with_stride;
+use crate::places::entries;
+use crate::places::stride_for;
+use crate::places::wide;
+use crate::refusal::StreamKind;
+use crate::stream::Head;
+use crate::stream::Place;
+use crate::stream::Stream;
+use crate::stream::StreamCheck;
+use crate::stream::behind_record;
+use crate::stream::header_of;
+use wire::field::Field16;
+
+// How many records a chain has up to its goal, or that it does not come there.
+pub enum Chain {
+    Met(u32),
+    Apart,
+}
+
+// How the places are laid out where the chains meet.
+pub enum Chains {
+    Met(Layout),
+    Apart,
+}
+
+// How many entries are noted, and after how many records the next is due.
+pub struct Due {
+    pub k: usize,
+    pub wait: u32,
+}
+
+pub enum FourPlaces {
+    At(usize, usize, usize, usize),
+    Beyond,
+}
+
+// Where four chains are, each so many records from where it was.
+pub struct Four {
+    pub a: usize,
+    pub b: usize,
+    pub c: usize,
+    pub d: usize,
+    pub n: u32,
+}
+
+// Where four chains are, each so many records from its start.
+pub struct Steps {
+    pub a: usize,
+    pub b: usize,
+    pub c: usize,
+    pub d: usize,
+    pub n: u32,
+    pub k: usize,
+    pub wait: u32,
+}
+
+// A place is noted in the next entry of a part, where that is due and there is one.
+fn note(
+    places: &mut [u32],
+    base: usize,
+    room: usize,
+    stride: u32,
+    at: usize,
+    k: usize,
+    wait: u32,
+) -> Due
+    requires { ⌜ (at < 0x1_0000_0000) × (base + room ≤ length (now places)) ⌝ }
+    ensures { λ r. ⌜ Dued stride room base at k wait (now (places .entry)) (now (places .exit)) r ⌝ }
+{
+    if 0 < wait {
+        return Due { k, wait };
+    }
+    if room <= k {
+        return Due { k, wait: stride };
+    }
+    places[base + k] = at as u32;
+    Due {
+        k: k + 1,
+        wait: stride,
+    }
+}
+
+// The rest of a chain that started at `from`.
+fn finish(
+    s: &[u8],
+    from: usize,
+    start: usize,
+    goal: usize,
+    number: u32,
+    noted: usize,
+    due: u32,
+    stride: u32,
+    room: usize,
+    base: usize,
+    places: &mut [u32],
+) -> Chain
+    requires { ⌜ Linked (now s) from stride room base (now places) start number noted due ⌝ }
+    requires { ⌜ (length (now s) < 0x1_0000_0000) × (from ≤ length (now s)) × (0 < stride) × (base + room ≤ length (now places)) ⌝ }
+    ensures { λ r. ⌜ Finished (now (s .entry)) from goal stride room base (now (places .entry)) (now (places .exit)) r ⌝ }
+{
+    let mut at = start;
+    let mut n = number;
+    let mut k = noted;
+    let mut wait = due;
+    while at < goal {
+        let d = note(places, base, room, stride, at, k, wait);
+        let Place::At(next) = behind_record(s, at) else {
+            return Chain::Apart;
+        };
+        at = next;
+        n += 1;
+        k = d.k;
+        wait = d.wait - 1;
+    }
+    if at == goal {
+        return Chain::Met(n);
+    }
+    Chain::Apart
+}
+
+fn four_behind(s: &[u8], a: usize, b: usize, c: usize, d: usize) -> FourPlaces
+    ensures { λ r. ⌜ FourBehind (now (s .entry)) a b c d r ⌝ }
+{
+    let Place::At(p) = behind_record(s, a) else {
+        return FourPlaces::Beyond;
+    };
+    let Place::At(q) = behind_record(s, b) else {
+        return FourPlaces::Beyond;
+    };
+    let Place::At(u) = behind_record(s, c) else {
+        return FourPlaces::Beyond;
+    };
+    let Place::At(v) = behind_record(s, d) else {
+        return FourPlaces::Beyond;
+    };
+    FourPlaces::At(p, q, u, v)
+}
+
+// Whether one of four places is at its goal, or behind it.
+fn one_there(
+    a: usize,
+    x: usize,
+    b: usize,
+    y: usize,
+    c: usize,
+    z: usize,
+    d: usize,
+    end: usize,
+) -> bool {
+    if x <= a {
+        return true;
+    }
+    if y <= b {
+        return true;
+    }
+    if z <= c {
+        return true;
+    }
+    end <= d
+}
+
+// At most so many records of each of four chains, in lockstep, until one is at its goal.
+fn stretch(
+    s: &[u8],
+    a: usize,
+    b: usize,
+    c: usize,
+    d: usize,
+    x: usize,
+    y: usize,
+    z: usize,
+    most: u32,
+) -> Four
+    ensures { λ r. ⌜ Stretched (now (s .entry)) a b c d most r ⌝ }
+{
+    let end = s.len();
+    let mut p = a;
+    let mut q = b;
+    let mut u = c;
+    let mut v = d;
+    let mut n: u32 = 0;
+    while n < most {
+        if one_there(p, x, q, y, u, z, v, end) {
+            return Four {
+                a: p,
+                b: q,
+                c: u,
+                d: v,
+                n,
+            };
+        }
+        let FourPlaces::At(p2, q2, u2, v2) = four_behind(s, p, q, u, v) else {
+            return Four {
+                a: p,
+                b: q,
+                c: u,
+                d: v,
+                n,
+            };
+        };
+        p = p2;
+        q = q2;
+        u = u2;
+        v = v2;
+        n += 1;
+    }
+    Four {
+        a: p,
+        b: q,
+        c: u,
+        d: v,
+        n,
+    }
+}
+
+// Four chains, in lockstep until one is at its goal; each notes its places in its own part.
+fn lockstep(
+    s: &[u8],
+    x: usize,
+    y: usize,
+    z: usize,
+    stride: u32,
+    room: usize,
+    places: &mut [u32],
+) -> Steps
+    requires { ⌜ (length (now s) < 0x1_0000_0000) × (56 ≤ length (now s)) × (x ≤ length (now s)) × (y ≤ length (now s)) × (z ≤ length (now s)) × (0 < stride) × (4 * room ≤ length (now places)) ⌝ }
+    ensures { λ r. ⌜ Stepped (now (s .entry)) x y z stride room (now (places .entry)) (now (places .exit)) r ⌝ }
+{
+    let third = 2 * room;
+    let fourth = 3 * room;
+    let mut a: usize = 56;
+    let mut b = x;
+    let mut c = y;
+    let mut d = z;
+    let mut n: u32 = 0;
+    let mut k: usize = 0;
+    loop {
+        let e0 = note(places, 0, room, stride, a, k, 0);
+        let e1 = note(places, room, room, stride, b, k, 0);
+        let e2 = note(places, third, room, stride, c, k, 0);
+        let e3 = note(places, fourth, room, stride, d, k, 0);
+        let wait = e3.wait;
+        let t = stretch(s, a, b, c, d, x, y, z, wait);
+        let left = wait - t.n;
+        a = t.a;
+        b = t.b;
+        c = t.c;
+        d = t.d;
+        n += t.n;
+        k = e3.k;
+        if 0 < left {
+            return Steps {
+                a,
+                b,
+                c,
+                d,
+                n,
+                k,
+                wait: left,
+            };
+        }
+    }
+}
+
+// The four chains to their goals: where each ends where the next starts and the numbers add up, the records tile.
+fn chained(
+    s: &[u8],
+    count: u32,
+    stride: u32,
+    room: u32,
+    x: usize,
+    y: usize,
+    z: usize,
+    places: &mut [u32],
+) -> Chains
+    requires { ⌜ (length (now s) < 0x1_0000_0000) × (56 ≤ length (now s)) × (x ≤ length (now s)) × (y ≤ length (now s)) × (z ≤ length (now s)) × (0 < stride) × (4 * room ≤ length (now places)) × (0 < room) ⌝ }
+    ensures { λ r. ⌜ ChainedFor (now (s .entry)) count (now (places .entry)) (now (places .exit)) r ⌝ }
+{
+    let r = wide(room);
+    let r2 = 2 * r;
+    let r3 = 3 * r;
+    let t = lockstep(s, x, y, z, stride, r, places);
+    let Chain::Met(e) = finish(s, 56, t.a, x, t.n, t.k, t.wait, stride, r, 0, places) else {
+        return Chains::Apart;
+    };
+    let Chain::Met(f) = finish(s, x, t.b, y, t.n, t.k, t.wait, stride, r, r, places) else {
+        return Chains::Apart;
+    };
+    let Chain::Met(g) = finish(s, y, t.c, z, t.n, t.k, t.wait, stride, r, r2, places) else {
+        return Chains::Apart;
+    };
+    let Chain::Met(h) = finish(s, z, t.d, s.len(), t.n, t.k, t.wait, stride, r, r3, places) else {
+        return Chains::Apart;
+    };
+    let third = e + f;
+    let fourth = third + g;
+    if fourth + h == count {
+        return Chains::Met(Layout {
+            stride,
+            room,
+            second: e,
+            third,
+            fourth,
+        });
+    }
+    Chains::Apart
+}
+
+fn plausible(kind: u16) -> bool {
+    match kind {
+        0x1001 | 0x1002 | 0x1008 | 0x1009 | 0x1201 | 0x1203 | 0x1205 | 0x1206 => true,
+        0x1503 | 0x1504 | 0x1505 | 0x1506 | 0x1507 | 0x000a | 0x000e | 0x151d => true,
+        0x1601 | 0x1602 | 0x1603 | 0x1604 | 0x1605 | 0x1606 | 0x1607 => true,
+        _ => false,
+    }
+}
+
+// The place behind eight likely heads that follow each other from a place on. What is no head but looks like one mostly leads to a head soon.
+fn behind_likely(s: &[u8], from: usize) -> Place
+    ensures { λ r. ⌜ ((x : ℕ) → r ≡ At x → x ≤ length (now (s .entry))) ⌝ }
+{
+    let mut at = from;
+    let mut i: u32 = 0;
+    while i < 8 {
+        let Place::At(next) = behind_record(s, at) else {
+            return Place::Beyond;
+        };
+        let Field16::Value(kind) = wire::field::u16_at(s, at + 2) else {
+            return Place::Beyond;
+        };
+        if !plausible(kind) {
+            return Place::Beyond;
+        }
+        at = next;
+        i += 1;
+    }
+    Place::At(at)
+}
+
+// A place behind another where a record may start.
+fn guess(s: &[u8], from: usize) -> usize
+    ensures { λ r. ⌜ r ≤ length (now (s .entry)) ⌝ }
+{
+    let mut at = from;
+    let mut i: u32 = 0;
+    while i < 65536 {
+        if s.len() <= at {
+            return s.len();
+        }
+        if let Place::At(x) = behind_likely(s, at) {
+            return x;
+        }
+        at += 1;
+        i += 1;
+    }
+    s.len()
+}
+
+// Four chains from the start and three guesses.
+fn four_chains(s: &[u8], count: u32, places: &mut [u32]) -> Chains
+    requires { ⌜ length (now s) < 0x1_0000_0000 ⌝ }
+    ensures { λ r. ⌜ ChainedFor (now (s .entry)) count (now (places .entry)) (now (places .exit)) r ⌝ }
+{
+    let room = entries(places.len()) / 4;
+    if room == 0 {
+        return Chains::Apart;
+    }
+    if s.len() < 56 {
+        return Chains::Apart;
+    }
+    let part = (s.len() - 56) / 4;
+    let x = guess(s, 56 + part);
+    let y = guess(s, 56 + 2 * part);
+    let z = guess(s, 56 + 3 * part);
+    let stride = stride_for(count, 2 * wide(room));
+    chained(s, count, stride, room, x, y, z, places)
+}
+
+// The check of a stream, which notes places: in four chains where there are many records, and else, or where the chains do not meet, in one.
+pub fn check_stream(s: &[u8], which: StreamKind, places: &mut [u32]) -> NotedCheck
+    ensures { λ r. ⌜ NotedFor which (now (s .entry)) (now (places .entry)) (now (places .exit)) r ⌝ }
+{
+    let Head::Good(first, end, stop) = header_of(s) else {
+        return check_with_stride(s, which, 0, places);
+    };
+    let count = end - first;
+    if count < 256 {
+        return check_with_stride(s, which, 0, places);
+    }
+    match four_chains(&s[..stop], count, places) {
+        Chains::Met(layout) => NotedCheck {
+            check: StreamCheck::Good(Stream { first, end, stop }),
+            layout,
+        },
+        Chains::Apart => check_with_stride(s, which, 0, places),
+    }
+}
