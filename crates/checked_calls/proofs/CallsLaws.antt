@@ -18,7 +18,8 @@ use Rattle.interpreter.specs.Trace.{Trace}
 use Rattle.rules.specs.Flags.{settings, sized, flagged}
 use Rattle.rules.specs.Record.{tableOf}
 use Rattle.rules.specs.Task.{Task, byItself, functionOf, idOf, sizeOf}
-use Rattle.rules.specs.Call.{refusal, none, stopped, whole, overTypes, overIds, functionReading, idReading, typeReading, sizeReading, strictly, answer, within, functionOutcome, idOutcome, typeOutcome, sizeAnswer, sizeOutcome, ofSize}
+use Rattle.streams.specs.Bounds.{none}
+use Rattle.rules.specs.Call.{refusal, stopped, whole, overTypes, overIds, functionReading, idReading, typeReading, sizeReading, strictly, answer, within, functionOutcome, idOutcome, typeOutcome, sizeAnswer, sizeOutcome, ofSize}
 use Rattle.context.specs.Context.{known, settingsOf, tableIn, keysOf, holding}
 use Rattle.context.specs.declared.flags.Call.{Call}
 use Rattle.context.specs.declared.flags.TypeFormatterFlags.{TypeFormatterFlags}

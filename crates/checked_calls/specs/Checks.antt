@@ -9,7 +9,8 @@ use Rattle.interpreter.specs.Trace.{Trace}
 use Rattle.rules.specs.Flags.{sized, flagged}
 use Rattle.rules.specs.Task.{Task, byItself, functionOf, idOf, sizeOf}
 use Rattle.rules.specs.Opening.{walked}
-use Rattle.rules.specs.Call.{Outcome, Size, none, refusal, within, sizeAnswer, Report, refusedBy, accepted}
+use Rattle.streams.specs.Bounds.{none}
+use Rattle.rules.specs.Call.{Outcome, Size, refusal, within, sizeAnswer, Report, refusedBy, accepted}
 use Rattle.context.specs.Context.{settingsOf, tableIn, holding}
 use Rattle.context.specs.declared.flags.Call.{Call}
 use Rattle.context.specs.declared.flags.TypeFormatterFlags.{TypeFormatterFlags}

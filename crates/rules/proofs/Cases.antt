@@ -14,10 +14,10 @@ use Rattle.streams.specs.Refusal.{numberOf, detailOf}
 use Rattle.streams.specs.declared.refusal.Refusal.the-variants.{Missing}
 use Rattle.codeview.specs.declared.record.PointerMode.the-variants as mode
 use Rattle.codeview.specs.declared.record.ClassKind.the-variants as kind
-use Rattle.streams.specs.Stream.{indexes, header, behind, passed, tiled, checked, recordAt, walkFrom, lookUp, part}
+use Rattle.streams.specs.Stream.{indexes, header, behind, passed, tiled, checked, recordAt, walkFrom, lookFrom, part}
 use Rattle.primitives.specs.Primitive.{primitives, firstOf}
 use Rattle.codeview.specs.Record.{bit, names, entries, pointerMode, containing, memberClass, modifierOf, pointerOf, procedureOf, memberFunctionOf, argumentListOf, enumerateOf, arrayOf, classOf, unionOf, enumerationOf, typeOf}
-use Rattle.codeview.specs.Read.{primitiveOf, readType}
+use Rattle.codeview.specs.Read.{primitiveOf, typeFrom}
 use Rattle.interpreter.specs.Trace.{exec, isOpen, opening, run, need, walk, held}
 use Rattle.rules.specs.Flags.{settings, sized, flagged}
 use Rattle.rules.specs.Record.{Attributes, Method, class, Record, pointer, modifier, procedure, method, arguments, array, primitive, named, IdRecord, function, Read, good, bad, Table, nameAt, numbersAt, matchName, typeContents, typeAsRead, tableOf}
@@ -35,7 +35,7 @@ use Rattle.rules.specs.Call as calls
 
 -- A line `unfolding computing` opens every definition that a case computes with.
 unfoldable computing : Unit {0}
-unfolding scopeText functionIdText idText idAlone number field sizeWidth valueWidth widthOf payload leaf zeroFrom nameEnd name indexes header behind passed tiled checked recordAt walkFrom lookUp part primitives firstOf bit names entries pointerMode containing memberClass modifierOf pointerOf procedureOf memberFunctionOf argumentListOf enumerateOf arrayOf classOf unionOf enumerationOf typeOf primitiveOf readType exec isOpen opening run need walk settings sized flagged nameAt numbersAt matchName typeContents typeAsRead tableOf digit numeral hex decimal missingMark unimplementedMark functionName primitiveName primitiveSize primitiveText worded classText overPointee sign levels endsSigned bracket brackets sameBytes unread marked valueOf fullLayout fullNamed fullOr result procedureResult returned methodArguments procedureArguments separated comma namedText typeText alone pointed aimed aimedAgain modifiedText methodText thisPointer methodList baseText elementText fullSize layoutSize namedSize recordSize sizeStep staticMark methodNamed procedureNamed functionText afterRead sameIndex rank entryOf body walked answer within whole overTypes functionReading typeReading₀ sizeReading sizeOutcome sizeAnswer calls.functionOutcome calls.typeOutcome
+unfolding scopeText functionIdText idText idAlone number field sizeWidth valueWidth widthOf payload leaf zeroFrom nameEnd name indexes header behind passed tiled checked recordAt walkFrom lookFrom part primitives firstOf bit names entries pointerMode containing memberClass modifierOf pointerOf procedureOf memberFunctionOf argumentListOf enumerateOf arrayOf classOf unionOf enumerationOf typeOf primitiveOf typeFrom exec isOpen opening run need walk settings sized flagged nameAt numbersAt matchName typeContents typeAsRead tableOf digit numeral hex decimal missingMark unimplementedMark functionName primitiveName primitiveSize primitiveText worded classText overPointee sign levels endsSigned bracket brackets sameBytes unread marked valueOf fullLayout fullNamed fullOr result procedureResult returned methodArguments procedureArguments separated comma namedText typeText alone pointed aimed aimedAgain modifiedText methodText thisPointer methodList baseText elementText fullSize layoutSize namedSize recordSize sizeStep staticMark methodNamed procedureNamed functionText afterRead sameIndex rank entryOf body walked answer within whole overTypes functionReading typeReading₀ sizeReading sizeOutcome sizeAnswer calls.functionOutcome calls.typeOutcome
 computing = tt
 
 -- Fields, records and a stream, as bytes.

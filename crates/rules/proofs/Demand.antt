@@ -24,7 +24,8 @@ use Rattle.rules.specs.Flags.{Settings, settings, sized, flagged}
 use Rattle.rules.specs.Record.{Table, tableOf}
 use Rattle.rules.specs.Task.{Task, byItself, functionOf, sizeOf, idOf}
 use Rattle.rules.specs.Opening.{sameIndex, entryOf, body, rank, walked, plainly}
-use Rattle.rules.specs.Call.{Outcome, text, stopped, answer, within, refusal, whole, none, overTypes, overIds, functionReading, idReading, typeReading, sizeReading, strictly, plainTo, metAgain, limitPassed, Reads, Demand, FunctionDemand, IdDemand, TypeDemand, SizeFinished}
+use Rattle.streams.specs.Bounds.{none}
+use Rattle.rules.specs.Call.{Outcome, text, stopped, answer, within, refusal, whole, overTypes, overIds, functionReading, idReading, typeReading, sizeReading, strictly, plainTo, metAgain, limitPassed, Reads, Demand, FunctionDemand, IdDemand, TypeDemand, SizeFinished}
 use Rattle.rules.proofs.Rank.{ranked}
 
 -- What ties a call's walk to its plain readings: the walk writes a text exactly where some number of steps finish the reading in it with nothing noted, and a reading

@@ -9,6 +9,7 @@ use lib.ListN.{length, drop, replicate}
 use Rattle.wire.specs.Field.{pick}
 use Rattle.streams.specs.Refusal.{numberOf, detailOf}
 use Rattle.streams.specs.Stream.{checked}
+use Rattle.streams.specs.Bounds.{none}
 use Rattle.streams.specs.declared.refusal.StreamKind.the-variants.{Types, Ids}
 use Rattle.streams.specs.declared.refusal.Refusal.{Refusal}
 use Rattle.streams.specs.declared.refusal.Refusal.the-variants.{Missing, CircularTypeDefinition, TooManyOpen, ChainTooLong, NoRoom}
@@ -70,10 +71,6 @@ refusal f = tr [] (refused f) [] (count 0 0)
 unfoldable pub whole : StreamCheck → (Stream → Trace Refusal) → Trace Refusal
 whole (Good t) k = k t
 whole (Refused f) k = refusal f
-
--- No stream: what stands for the ids where a call is not for an id.
-abbrev pub none : Stream
-none = record { first = 0; end = 0; stop = 0 }
 
 -- What is lent to a call besides what it asks: "Call checks come first, then stream checks (types, then ids where the call is for an id), then the walk".
 -- How a task is read is handed in: the walk, or the plain reading of some depth.

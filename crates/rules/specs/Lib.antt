@@ -10,3 +10,4 @@ pub mod Sizes
 pub mod Ids
 pub mod Opening
 pub mod Call
+pub mod Places

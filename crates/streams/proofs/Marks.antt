@@ -5,12 +5,13 @@ use native.Mathlib.Numerals.{add-one}
 use native.Mathlib.Omega.{arith}
 use mathlib.Core.Path.{_≡_, refl, sym, _∙_, ap}
 use mathlib.Core.Bool.{Bool, true, false}
-use mathlib.Core.List.{List}
+use mathlib.Core.List.{List, []}
 use lib.ListN.{length, take, getD}
+use lib.Seq.{take-nil}
 use lib.Dec.{leb, ltb}
-use borrow.Author.Tests.{ltb-true, ltb-false, leb-false, le-ltb, lt-ltb}
-use Rattle.wire.specs.Field.{pick}
-use Rattle.streams.specs.Stream.{passed, recordAt, firstRecord, walkFrom, lookFrom}
+use borrow.Author.Tests.{ltb-true, ltb-false, leb-false, le-ltb, lt-ltb, lt-leb}
+use Rattle.wire.specs.Field.{pick, field}
+use Rattle.streams.specs.Stream.{behind, passed, recordAt, firstRecord, walkFrom, lookFrom}
 use Rattle.streams.specs.Places.{firstMark, entryIn, markIn, markBy, nearest, servesIn, serves, servesUntil, RightMarks, RightFor, RightPlaces, strided}
 use Rattle.streams.specs.declared.stream.Stream.{Stream}
 use Rattle.streams.specs.declared.stream.Cursor.{Cursor}
@@ -124,6 +125,28 @@ walk-right {A} l ps s t r i k m x = go (leb 0x8000_0000 i) (ltb i (t .first)) (l
 pub look-right : {A : Type 0} (l : Layout) (ps s : List ℕ) (t : Stream) → RightFor l ps s t → (i : ℕ) (k : ℕ → ℕ → ℕ → A) (m x : A) → lookFrom s t (nearest l ps t i) i k m x ≡ lookFrom s t (firstRecord t) i k m x
 unfolding lookFrom
 look-right l ps s t r i k m x = walk-right l ps s t r i (λ c. recordAt (take (t .stop) s) (c .at) k m) m x
+
+-- In no bytes nothing is found, from wherever it is sought.
+gone : {A : Type 0} (at : ℕ) (f : ℕ → A) (m : A) → behind [] at f m ≡ m
+unfolding behind field
+gone at f m = rw (lt-leb (at + 2) 0 (omega arith))
+
+pub look-nothing : {A : Type 0} (t : Stream) (from : Cursor) (i : ℕ) (k : ℕ → ℕ → ℕ → A) (m x : A) → lookFrom [] t from i k m x ≡ pick (leb 0x8000_0000 i) x m
+unfolding lookFrom walkFrom passed recordAt
+look-nothing {A} t from i k m x = go (leb 0x8000_0000 i) (ltb i (from .index)) (leb (t .end) i)
+  where
+    found : ℕ → A
+    found at = recordAt (take (t .stop) []) at k m
+
+    none : (n at : ℕ) → passed n (take (t .stop) []) at found m ≡ m
+    none zero at = rw (take-nil (t .stop)) (gone at _ m)
+    none (suc n) at = rw (take-nil (t .stop)) (gone at _ m)
+
+    go : (a b c : Bool) → pick a x (pick b m (pick c m (passed (i - from .index) (take (t .stop) []) (from .at) found m))) ≡ pick a x m
+    go true b c = refl
+    go false true c = refl
+    go false false true = refl
+    go false false false = none (i - from .index) (from .at)
 
 -- Places of a whole stream that are right make right marks, whatever number of them is in use.
 pub strided-right : (stride room : ℕ) (ps : List ℕ) (count : ℕ) (s : List ℕ) → count ≤ 0xffff_ffff → RightPlaces stride ps count s → RightMarks (strided stride room) ps count s

@@ -151,7 +151,7 @@ pub fn record_at(s: &[u8], at: usize) -> Found
     }
 }
 
-fn shorter(a: usize, b: usize) -> usize
+pub fn shorter(a: usize, b: usize) -> usize
     ensures { λ r. ⌜ r ≡ min a b ⌝ }
 {
     if a < b { a } else { b }

@@ -1,0 +1,23 @@
+-- The definition's cases.
+-- Assumes nothing.
+use Rattle.streams.specs.Bounds.{streamOf}
+use borrow.Author.Needs.{needs}
+use Rattle.streams.proofs.bounds.stream_of.Statement.{statement}
+use Rattle.streams.proofs.bounds.stream_of.Tie as tie
+
+enum-known-c : tie.Need-enum-known-c
+enum-known-c c = search needs
+
+enum-told : tie.Need-enum-told
+enum-told c = search needs
+
+returns : tie.Need-returns
+unfolding streamOf
+returns c = rw (c .before .c .given .1)
+
+returns-2 : tie.Need-returns-2
+unfolding streamOf
+returns-2 c = rw (c .enum-told .given .1)
+
+pub stream-of-spec : {M : Type 1} → statement M
+stream-of-spec = tie.close (tie.spec enum-known-c enum-told returns returns-2)

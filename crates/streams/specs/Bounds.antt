@@ -1,0 +1,73 @@
+-- What the checks of a call's two streams found, as numbers in a list: so it is lent to the writers beside the places, and kept by a caller for later calls. Of
+-- each stream there are nine, the types' before the ids'; then follows how many of the places are the types'. Any list of numbers says something.
+use Prim.Native.Nat.{ℕ, _+_, min}
+use mathlib.Core.List.{List, [], _∷_}
+use lib.ListN.{take, drop, getD}
+use lib.Dec.{eqb}
+use Rattle.wire.specs.Field.{pick}
+use Rattle.streams.specs.Refusal.{numberOf}
+use Rattle.streams.specs.declared.refusal.StreamKind.{StreamKind}
+use Rattle.streams.specs.declared.refusal.StreamKind.the-variants as stream
+use Rattle.streams.specs.declared.refusal.Refusal.the-variants.{Header, Tiling}
+use Rattle.streams.specs.declared.stream.Stream.{Stream}
+use Rattle.streams.specs.declared.stream.StreamCheck.{StreamCheck}
+use Rattle.streams.specs.declared.stream.StreamCheck.the-variants.{Good, Refused}
+use Rattle.streams.specs.declared.places.Layout.{Layout}
+use Rattle.streams.specs.declared.places.NotedCheck.{NotedCheck}
+
+-- Where the numbers of a stream start.
+unfoldable pub startOf : StreamKind → ℕ
+startOf stream.Types = 0
+startOf stream.Ids = 9
+
+-- The bounds of a stream, and how its places are laid out.
+unfoldable pub streamIn : List ℕ → StreamKind → Stream
+streamIn ns which =
+    record {
+      first = getD ns (startOf which + 1) 0;
+      end = getD ns (startOf which + 2) 0;
+      stop = getD ns (startOf which + 3) 0;
+    }
+
+unfoldable pub layoutIn : List ℕ → StreamKind → Layout
+layoutIn ns which =
+    record {
+      stride = getD ns (startOf which + 4) 0;
+      room = getD ns (startOf which + 5) 0;
+      second = getD ns (startOf which + 6) 0;
+      third = getD ns (startOf which + 7) 0;
+      fourth = getD ns (startOf which + 8) 0;
+    }
+
+-- The check of a stream: 1 says that it is good, 4 that its records do not tile, anything else that it has no header.
+unfoldable pub checkIn : List ℕ → StreamKind → StreamCheck
+checkIn ns which =
+    pick (eqb (getD ns (startOf which) 0) 1) (Good (streamIn ns which))
+    (pick (eqb (getD ns (startOf which) 0) 4) (Refused (Tiling which)) (Refused (Header which)))
+
+-- The places of a stream.
+unfoldable pub placesIn : List ℕ → List ℕ → StreamKind → List ℕ
+placesIn ns ps stream.Types = take (getD ns 18 0) ps
+placesIn ns ps stream.Ids = drop (getD ns 18 0) ps
+
+-- What is noted of a check: its answer, then the bounds and the layout.
+unfoldable pub stateOf : StreamCheck → ℕ
+stateOf (Good t) = 1
+stateOf (Refused f) = numberOf f
+
+-- No stream: what stands for one that was refused, and for the ids where a call is not for an id.
+abbrev pub none : Stream
+none = record { first = 0; end = 0; stop = 0 }
+
+unfoldable pub streamOf : StreamCheck → Stream
+streamOf (Good t) = t
+streamOf (Refused f) = none
+
+abbrev numbersBefore : ℕ → Stream → Layout → List ℕ → List ℕ
+numbersBefore state t l rest =
+    state ∷ t .first ∷ t .end ∷ min (t .stop) 0xffff_ffff ∷ l .stride ∷ l .room ∷ l .second ∷ l .third ∷ l .fourth ∷ rest
+
+unfoldable pub boundsOf : NotedCheck → NotedCheck → ℕ → List ℕ
+boundsOf a b split =
+    numbersBefore (stateOf (a .check)) (streamOf (a .check)) (a .layout)
+    (numbersBefore (stateOf (b .check)) (streamOf (b .check)) (b .layout) (split ∷ []))

@@ -1,0 +1,152 @@
+// What the checks of a call's two streams found, as 19 numbers: nine of the types, nine of the ids, and how many of the places are the types'.
+ghost use mathlib.Core.Path.{_≡_};
+ghost use Prim.Native.Nat.{_≤_, min};
+ghost use lib.ListN.{getD};
+ghost use Rattle.streams.specs.Bounds.{startOf, streamIn, layoutIn, checkIn, placesIn, stateOf, streamOf, boundsOf};
+use crate::places::Layout;
+use crate::places::NotedCheck;
+use crate::places::wide;
+use crate::refusal::Refusal;
+use crate::refusal::StreamKind;
+use crate::stream::Stream;
+use crate::stream::StreamCheck;
+use crate::stream::shorter;
+
+// A number of a list; 0 past its end.
+fn number_at(numbers: &[u32], k: usize) -> u32
+    ensures { λ r. ⌜ r ≡ getD (now (numbers .entry)) k 0 ⌝ }
+{
+    if k < numbers.len() {
+        return numbers[k];
+    }
+    0
+}
+
+fn start_of(which: StreamKind) -> usize
+    ensures { λ r. ⌜ (r ≡ startOf which) × (r ≤ 9) ⌝ }
+{
+    match which {
+        StreamKind::Types => 0,
+        StreamKind::Ids => 9,
+    }
+}
+
+// The bounds of a stream.
+pub fn stream_in(bounds: &[u32], which: StreamKind) -> Stream
+    ensures { λ r. ⌜ r ≡ streamIn (now (bounds .entry)) which ⌝ }
+{
+    let k = start_of(which);
+    let first = number_at(bounds, k + 1);
+    let end = number_at(bounds, k + 2);
+    let stop = wide(number_at(bounds, k + 3));
+    Stream { first, end, stop }
+}
+
+// How a stream's places are laid out.
+pub fn layout_in(bounds: &[u32], which: StreamKind) -> Layout
+    ensures { λ r. ⌜ r ≡ layoutIn (now (bounds .entry)) which ⌝ }
+{
+    let k = start_of(which);
+    let stride = number_at(bounds, k + 4);
+    let room = number_at(bounds, k + 5);
+    let second = number_at(bounds, k + 6);
+    let third = number_at(bounds, k + 7);
+    let fourth = number_at(bounds, k + 8);
+    Layout {
+        stride,
+        room,
+        second,
+        third,
+        fourth,
+    }
+}
+
+// The check of a stream.
+pub fn check_in(bounds: &[u32], which: StreamKind) -> StreamCheck
+    ensures { λ r. ⌜ r ≡ checkIn (now (bounds .entry)) which ⌝ }
+{
+    let state = number_at(bounds, start_of(which));
+    if state == 1 {
+        return StreamCheck::Good(stream_in(bounds, which));
+    }
+    if state == 4 {
+        return StreamCheck::Refused(Refusal::Tiling(which));
+    }
+    StreamCheck::Refused(Refusal::Header(which))
+}
+
+// The places of a stream.
+pub fn places_in<'a>(bounds: &[u32], places: &'a [u32], which: StreamKind) -> &'a [u32]
+    ensures { λ r. ⌜ now (r) ≡ placesIn (now (bounds .entry)) (now (places .entry)) which ⌝ }
+{
+    let split = shorter(wide(number_at(bounds, 18)), places.len());
+    match which {
+        StreamKind::Types => &places[..split],
+        StreamKind::Ids => &places[split..],
+    }
+}
+
+fn state_of(c: StreamCheck) -> u32
+    ensures { λ r. ⌜ r ≡ stateOf c ⌝ }
+{
+    match c {
+        StreamCheck::Good(_) => 1,
+        StreamCheck::Refused(f) => f.number(),
+    }
+}
+
+fn stream_of(c: StreamCheck) -> Stream
+    ensures { λ r. ⌜ r ≡ streamOf c ⌝ }
+{
+    match c {
+        StreamCheck::Good(t) => t,
+        StreamCheck::Refused(_) => Stream {
+            first: 0,
+            end: 0,
+            stop: 0,
+        },
+    }
+}
+
+fn narrow(n: usize) -> u32
+    ensures { λ r. ⌜ r ≡ min n 0xffff_ffff ⌝ }
+{
+    if n < 0xffff_ffff {
+        n as u32
+    } else {
+        0xffff_ffff
+    }
+}
+
+// What both checks found; the first `split` places are the types'.
+pub fn bounds_of(a: NotedCheck, b: NotedCheck, split: u32) -> [u32; 19]
+    ensures { λ r. ⌜ r ≡ boundsOf a b split ⌝ }
+{
+    let c = a.check;
+    let l = a.layout;
+    let t = stream_of(c);
+    let d = b.check;
+    let m = b.layout;
+    let u = stream_of(d);
+    [
+        state_of(c),
+        t.first,
+        t.end,
+        narrow(t.stop),
+        l.stride,
+        l.room,
+        l.second,
+        l.third,
+        l.fourth,
+        state_of(d),
+        u.first,
+        u.end,
+        narrow(u.stop),
+        m.stride,
+        m.room,
+        m.second,
+        m.third,
+        m.fourth,
+        split,
+    ]
+}
