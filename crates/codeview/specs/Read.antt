@@ -7,6 +7,8 @@ use Rattle.wire.specs.Field.{pick}
 use Rattle.primitives.specs.Primitive.{primitives, firstOf}
 use Rattle.streams.specs.Stream.{recordAt, firstRecord, lookFrom, part}
 use Rattle.streams.specs.Places.{nearest}
+use Rattle.streams.specs.Bounds.{streamIn, layoutIn, placesIn}
+use Rattle.streams.specs.declared.refusal.StreamKind.the-variants.{Types, Ids}
 use Rattle.codeview.specs.Record.{typeOf}
 use Rattle.codeview.specs.IdRecord.{idDataOf}
 use Rattle.streams.specs.declared.refusal.Refusal.the-variants.{Malformed, Missing, CrossModule}
@@ -46,6 +48,10 @@ readType s t index = typeFrom s t (firstRecord t) index
 abbrev pub readTypeBy : Layout → List ℕ → List ℕ → Stream → ℕ → TypeRead
 readTypeBy l ps s t index = typeFrom s t (nearest l ps t index) index
 
+-- The same, where the bounds of both streams, and how their places are laid out, are lent as numbers.
+abbrev pub readTypeIn : List ℕ → List ℕ → List ℕ → ℕ → TypeRead
+readTypeIn s bounds places index = readTypeBy (layoutIn bounds Types) (placesIn bounds places Types) s (streamIn bounds Types) index
+
 -- The same where the place of the index's record is known.
 unfoldable pub typeIn : List ℕ → Stream → ℕ → ℕ → TypeRead
 typeIn s t at index =
@@ -66,3 +72,6 @@ readId s t index = idFrom s t (firstRecord t) index
 
 abbrev pub readIdBy : Layout → List ℕ → List ℕ → Stream → ℕ → IdRead
 readIdBy l ps s t index = idFrom s t (nearest l ps t index) index
+
+abbrev pub readIdIn : List ℕ → List ℕ → List ℕ → ℕ → IdRead
+readIdIn s bounds places index = readIdBy (layoutIn bounds Ids) (placesIn bounds places Ids) s (streamIn bounds Ids) index

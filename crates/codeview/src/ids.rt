@@ -3,7 +3,7 @@ ghost use mathlib.Core.Path.{_≡_};
 ghost use Prim.Native.Nat.{_+_, _<_, _^_};
 ghost use lib.ListN.{length};
 ghost use Rattle.codeview.specs.IdRecord.{functionParts, functionIdOf, memberFunctionIdOf, stringListOf, stringOf, idDataOf};
-ghost use Rattle.codeview.specs.Read.{readIdBy};
+ghost use Rattle.codeview.specs.Read.{readIdIn};
 ghost use Rattle.streams.specs.declared.refusal.Refusal.the-variants.{Malformed};
 ghost use Rattle.codeview.specs.declared.record.IdRead.the-variants.{Refused};
 ghost use Rattle.codeview.specs.declared.ids.PartsRead.the-variants.{Whole, Cut};
@@ -17,10 +17,12 @@ use crate::record::IdData;
 use crate::record::IdRead;
 use crate::record::MemberFunctionId;
 use crate::record::StringId;
-use streams::places::Layout;
+use streams::bounds::layout_in;
+use streams::bounds::places_in;
+use streams::bounds::stream_in;
 use streams::refusal::Refusal;
+use streams::refusal::StreamKind;
 use streams::stream::Found;
-use streams::stream::Stream;
 use wire::name::Name;
 use wire::name::NameRead;
 
@@ -122,11 +124,14 @@ fn decode_id(b: &[u8], base: usize, kind: u16, index: u32) -> IdRead
 }
 
 // What an id index stands for in a checked stream, found from its places.
-pub fn id_at(s: &[u8], places: &[u32], l: Layout, stream: Stream, index: IdIndex) -> IdRead
-    ensures { λ r. ⌜ r ≡ readIdBy l (now (places .entry)) (now (s .entry)) stream (index .0) ⌝ }
+pub fn id_at(s: &[u8], bounds: &[u32], places: &[u32], index: IdIndex) -> IdRead
+    ensures { λ r. ⌜ r ≡ readIdIn (now (s .entry)) (now (bounds .entry)) (now (places .entry)) (index .0) ⌝ }
 {
     let i = index.0;
-    match streams::places::look_up(s, places, l, stream, i) {
+    let near = places_in(bounds, places, StreamKind::Ids);
+    let l = layout_in(bounds, StreamKind::Ids);
+    let stream = stream_in(bounds, StreamKind::Ids);
+    match streams::places::look_up(s, near, l, stream, i) {
         Found::Record { kind, start, end } => decode_id(&s[start..end], start, kind, i),
         Found::Missing => IdRead::Refused(Refusal::Missing(i)),
         Found::CrossModule => IdRead::Refused(Refusal::CrossModule(i)),

@@ -3,7 +3,7 @@ ghost use mathlib.Core.Path.{_≡_};
 ghost use Prim.Native.Nat.{_+_, _/_, _%_, _<_, _^_};
 ghost use lib.ListN.{length};
 ghost use Rattle.codeview.specs.Record.{pointerMode, containing, memberClass, modifierOf, pointerOf, procedureOf, memberFunctionOf, argumentListOf, enumerateOf, arrayOf, classOf, unionOf, enumerationOf, typeOf};
-ghost use Rattle.codeview.specs.Read.{primitiveOf, readTypeBy, typeIn};
+ghost use Rattle.codeview.specs.Read.{primitiveOf, readTypeIn, typeIn};
 ghost use Rattle.wire.specs.declared.field.Field32.the-variants as f32;
 ghost use Rattle.streams.specs.declared.refusal.Refusal.the-variants.{Malformed};
 ghost use Rattle.codeview.specs.declared.record.TypeRead.the-variants.{Refused};
@@ -29,8 +29,11 @@ use crate::record::ProcedureType;
 use crate::record::TypeData;
 use crate::record::TypeRead;
 use crate::record::UnionType;
-use streams::places::Layout;
+use streams::bounds::layout_in;
+use streams::bounds::places_in;
+use streams::bounds::stream_in;
 use streams::refusal::Refusal;
+use streams::refusal::StreamKind;
 use streams::stream::Found;
 use streams::stream::Stream;
 use wire::field::Field32;
@@ -336,14 +339,17 @@ fn primitive_type(index: u32) -> TypeRead
 }
 
 // What a type index stands for in a checked stream, found from its places.
-pub fn type_at(s: &[u8], places: &[u32], l: Layout, stream: Stream, index: TypeIndex) -> TypeRead
-    ensures { λ r. ⌜ r ≡ readTypeBy l (now (places .entry)) (now (s .entry)) stream (index .0) ⌝ }
+pub fn type_at(s: &[u8], bounds: &[u32], places: &[u32], index: TypeIndex) -> TypeRead
+    ensures { λ r. ⌜ r ≡ readTypeIn (now (s .entry)) (now (bounds .entry)) (now (places .entry)) (index .0) ⌝ }
 {
     let i = index.0;
     if i < 0x1000 {
         return primitive_type(i);
     }
-    match streams::places::look_up(s, places, l, stream, i) {
+    let near = places_in(bounds, places, StreamKind::Types);
+    let l = layout_in(bounds, StreamKind::Types);
+    let stream = stream_in(bounds, StreamKind::Types);
+    match streams::places::look_up(s, near, l, stream, i) {
         Found::Record { kind, start, end } => decode_type(&s[start..end], start, kind, i),
         Found::Missing => TypeRead::Refused(Refusal::Missing(i)),
         Found::CrossModule => TypeRead::Refused(Refusal::CrossModule(i)),

@@ -9,6 +9,15 @@ use borrow.Author.Needs.{needs}
 use Rattle.codeview.proofs.ids.id_at.Statement.{statement}
 use Rattle.codeview.proofs.ids.id_at.Tie as tie
 
+places-in-requires : tie.Need-places-in-requires
+places-in-requires c κs = search needs
+
+layout-in-requires : tie.Need-layout-in-requires
+layout-in-requires c κs = search needs
+
+stream-in-requires : tie.Need-stream-in-requires
+stream-in-requires c κs = search needs
+
 look-up-requires : tie.Need-look-up-requires
 look-up-requires c κs = search needs
 
@@ -25,7 +34,7 @@ part-decode-id-end : tie.Need-part-decode-id-end
 part-decode-id-end c = omega (arith, look-within _ _ _ _ (c .before .before .before .look-up .ensures) _ _ _ (c .before .kind .given .1))
 
 decode-id-requires : tie.Need-decode-id-requires
-decode-id-requires c κs = omega (arith, part-end (now (c .before .before .before .before .before .before .before .args .s)) (c .before .before .kind .given .0 .1 .0) (c .before .before .kind .given .0 .1 .1 .0) (look-within _ _ _ _ (c .before .before .before .before .look-up .ensures) _ _ _ (c .before .before .kind .given .1)), look-within _ _ _ _ (c .before .before .before .before .look-up .ensures) _ _ _ (c .before .before .kind .given .1), c .before .before .before .before .before .before .before .good .0)
+decode-id-requires c κs = omega (arith, part-end (now (c .before .before .before .before .before .before .before .before .before .before .before .args .s)) (c .before .before .kind .given .0 .1 .0) (c .before .before .kind .given .0 .1 .1 .0) (look-within _ _ _ _ (c .before .before .before .before .look-up .ensures) _ _ _ (c .before .before .kind .given .1)), look-within _ _ _ _ (c .before .before .before .before .look-up .ensures) _ _ _ (c .before .before .kind .given .1), c .before .before .before .before .before .before .before .before .before .before .before .good .0)
 
 enum-told : tie.Need-enum-told
 enum-told c = search needs
@@ -35,20 +44,23 @@ enum-told-2 c = search needs
 
 returns : tie.Need-returns
 unfolding idFrom part
-returns c = rw (look-by _ _ _ _ (c .before .before .before .before .before .look-up .ensures) (c .before .before .before .kind .given .1), c .decode-id .ensures)
+returns c = rw (← c .before .before .before .before .before .before .before .before .places-in .ensures, ← c .before .before .before .before .before .before .before .layout-in .ensures, ← c .before .before .before .before .before .before .stream-in .ensures, look-by _ _ _ _ (c .before .before .before .before .before .look-up .ensures) (c .before .before .before .kind .given .1), c .decode-id .ensures)
 
 returns-2 : tie.Need-returns-2
 unfolding idFrom
-returns-2 c = rw (look-by _ _ _ _ (c .before .before .look-up .ensures) (c .enum-told .given .1))
+returns-2 c = rw (← c .before .before .before .before .before .places-in .ensures, ← c .before .before .before .before .layout-in .ensures, ← c .before .before .before .stream-in .ensures, look-by _ _ _ _ (c .before .before .look-up .ensures) (c .enum-told .given .1))
 
 returns-3 : tie.Need-returns-3
 unfolding idFrom
-returns-3 c = rw (look-by _ _ _ _ (c .before .before .look-up .ensures) (c .enum-told2 .given .1))
+returns-3 c = rw (← c .before .before .before .before .before .places-in .ensures, ← c .before .before .before .before .layout-in .ensures, ← c .before .before .before .stream-in .ensures, look-by _ _ _ _ (c .before .before .look-up .ensures) (c .enum-told2 .given .1))
 
 pub id-at-spec : {M : Type 1} → statement M
 id-at-spec =
     tie.close
     (tie.spec
+    places-in-requires
+    layout-in-requires
+    stream-in-requires
     look-up-requires
     enum-known-kind
     sub-decode-id

@@ -17,6 +17,15 @@ returns : tie.Need-returns
 unfolding typeFrom
 returns c = rw (lt-ltb _ _ (c .before .if1 .taken), c .primitive-type .ensures)
 
+places-in-requires : tie.Need-places-in-requires
+places-in-requires c κs = search needs
+
+layout-in-requires : tie.Need-layout-in-requires
+layout-in-requires c κs = search needs
+
+stream-in-requires : tie.Need-stream-in-requires
+stream-in-requires c κs = search needs
+
 look-up-requires : tie.Need-look-up-requires
 look-up-requires c κs = search needs
 
@@ -33,7 +42,7 @@ part-decode-type-end : tie.Need-part-decode-type-end
 part-decode-type-end c = omega (arith, look-within _ _ _ _ (c .before .before .before .look-up .ensures) _ _ _ (c .before .kind .given .1))
 
 decode-type-requires : tie.Need-decode-type-requires
-decode-type-requires c κs = omega (arith, part-end (now (c .before .before .before .before .before .before .before .before .args .s)) (c .before .before .kind .given .0 .1 .0) (c .before .before .kind .given .0 .1 .1 .0) (look-within _ _ _ _ (c .before .before .before .before .look-up .ensures) _ _ _ (c .before .before .kind .given .1)), look-within _ _ _ _ (c .before .before .before .before .look-up .ensures) _ _ _ (c .before .before .kind .given .1), c .before .before .before .before .before .before .before .before .good .0)
+decode-type-requires c κs = omega (arith, part-end (now (c .before .before .before .before .before .before .before .before .before .before .before .before .args .s)) (c .before .before .kind .given .0 .1 .0) (c .before .before .kind .given .0 .1 .1 .0) (look-within _ _ _ _ (c .before .before .before .before .look-up .ensures) _ _ _ (c .before .before .kind .given .1)), look-within _ _ _ _ (c .before .before .before .before .look-up .ensures) _ _ _ (c .before .before .kind .given .1), c .before .before .before .before .before .before .before .before .before .before .before .before .good .0)
 
 enum-told : tie.Need-enum-told
 enum-told c = search needs
@@ -43,15 +52,15 @@ enum-told-2 c = search needs
 
 returns-2 : tie.Need-returns-2
 unfolding typeFrom part
-returns-2 c = rw (le-ltb _ _ (c .before .before .before .before .before .before .if1 .left), look-by _ _ _ _ (c .before .before .before .before .before .look-up .ensures) (c .before .before .before .kind .given .1), c .decode-type .ensures)
+returns-2 c = rw (le-ltb _ _ (c .before .before .before .before .before .before .before .before .before .if1 .left), ← c .before .before .before .before .before .before .before .before .places-in .ensures, ← c .before .before .before .before .before .before .before .layout-in .ensures, ← c .before .before .before .before .before .before .stream-in .ensures, look-by _ _ _ _ (c .before .before .before .before .before .look-up .ensures) (c .before .before .before .kind .given .1), c .decode-type .ensures)
 
 returns-3 : tie.Need-returns-3
 unfolding typeFrom
-returns-3 c = rw (le-ltb _ _ (c .before .before .before .if1 .left), look-by _ _ _ _ (c .before .before .look-up .ensures) (c .enum-told .given .1))
+returns-3 c = rw (le-ltb _ _ (c .before .before .before .before .before .before .if1 .left), ← c .before .before .before .before .before .places-in .ensures, ← c .before .before .before .before .layout-in .ensures, ← c .before .before .before .stream-in .ensures, look-by _ _ _ _ (c .before .before .look-up .ensures) (c .enum-told .given .1))
 
 returns-4 : tie.Need-returns-4
 unfolding typeFrom
-returns-4 c = rw (le-ltb _ _ (c .before .before .before .if1 .left), look-by _ _ _ _ (c .before .before .look-up .ensures) (c .enum-told2 .given .1))
+returns-4 c = rw (le-ltb _ _ (c .before .before .before .before .before .before .if1 .left), ← c .before .before .before .before .before .places-in .ensures, ← c .before .before .before .before .layout-in .ensures, ← c .before .before .before .stream-in .ensures, look-by _ _ _ _ (c .before .before .look-up .ensures) (c .enum-told2 .given .1))
 
 pub type-at-spec : {M : Type 1} → statement M
 type-at-spec =
@@ -59,6 +68,9 @@ type-at-spec =
     (tie.spec
     primitive-type-requires
     returns
+    places-in-requires
+    layout-in-requires
+    stream-in-requires
     look-up-requires
     enum-known-kind
     sub-decode-type
