@@ -1,10 +1,10 @@
 -- The laws of the stacks: one step of a search, a push, a change of the newest, and when a stack is full. Assumes nothing.
-use Prim.Native.Nat.{ℕ, zero, suc, _+_, _-_, _*_, _/_, _%_, _^_, _<_, _≤_, min}
+use Prim.Native.Nat.{ℕ, zero, suc, _+_, _-_, _*_, _/_, _%_, _^_, _<_, _≤_}
 use mathlib.Core.Path.{_≡_, refl, ap, sym, _∙_}
-use mathlib.Core.List.{List, [], _∷_, _++_, map, append-assoc}
+use mathlib.Core.List.{List, [], _∷_, map}
 use mathlib.Core.Bool.{Bool, true, false, not, _||_}
-use lib.ListN.{length, set, take, drop, getD, length-set, length-drop, length-append, length-map, drop-of-length-le}
-use lib.Seq.{drop-cons, drop-set-lt, getD-set-same, take-suc, take-length, length-take-le, set-at}
+use lib.ListN.{length, set, drop, getD, length-set, length-drop, length-map, drop-of-length-le}
+use lib.Seq.{drop-cons, drop-set-lt, getD-set-same}
 use lib.Bits.{bitAnd, and-high}
 use lib.Dec.{eqb, leb}
 use lib.Pow.{high-ones, pow-pos}
@@ -30,7 +30,7 @@ use Rattle.pen.specs.Page.{idle, gone, counted, refusedPen, unreadPen}
 use Rattle.pen.proofs.Laws.{refused-alive}
 use Rattle.pen.specs.declared.Pen.{Pen}
 use Rattle.context.specs.Context.{intersects, keyOf, keysOf, hasIndex, flagsByte, modeByte, modeAt, levelByte, levelOf, levelAt, overLevels, sizesOf, pushedDimension}
-use Rattle.context.specs.Opening.{wayOf, noted, Leaves, leaves, opensTo, readTo, openedTo, opensTypeTo}
+use Rattle.context.specs.Opening.{wayOf, Leaves, leaves, opensTo, readTo, openedTo, opensTypeTo}
 use Rattle.context.specs.declared.seen.Way.{Way}
 use Rattle.context.specs.declared.seen.Opening.{Opening}
 use Rattle.context.specs.declared.seen.Opening.the-variants as opening
@@ -89,55 +89,25 @@ pub keys-length : (l : List ℕ) → length (keysOf l) ≡ length l
 unfolding keysOf
 keys-length l = length-map l keyOf
 
--- a list that is filled from another, one place further on: the first, one more, and all
-pub filled-first : (l s : List ℕ) (x : ℕ) → 0 < length l → set l 0 x ≡ (x ∷ take 0 s) ++ drop (0 + 1) (set l 0 x)
-filled-first [] s x h = absurd (omega arith)
-filled-first (y ∷ l) s x h = refl
-
-pub filled-next : (l m s : List ℕ) (n x : ℕ) → n < length s → n + 1 < length l → m ≡ (x ∷ take n s) ++ drop (n + 1) l
-    → set m (n + 1) (getD s n 0) ≡ (x ∷ take (n + 1) s) ++ drop (n + 1 + 1) l
-filled-next l m s n x h k e =
-    let a : n + 1 + 1 ≡ suc (n + 1) = add-one (n + 1) in
-    let b : n + 1 ≡ suc n = add-one n in
-    let z : length (x ∷ take n s) ≡ n + 1 = rw b (ap suc (length-take-le n s (omega arith))) in
-    let f : drop (n + 1) l ≡ getD l (n + 1) 0 ∷ drop (suc (n + 1)) l = drop-cons l (n + 1) 0 k in
-    let g : take (n + 1) s ≡ take n s ++ (getD s n 0 ∷ []) = rw b (take-suc s n 0 h) in
-    let u : m ≡ (x ∷ take n s) ++ (getD l (n + 1) 0 ∷ drop (suc (n + 1)) l) = e ∙ ap (λ (y : List ℕ). (x ∷ take n s) ++ y) f in
-    ap (λ (y : List ℕ). set y (n + 1) (getD s n 0)) u
-    ∙ set-at (x ∷ take n s) (getD l (n + 1) 0) (drop (suc (n + 1)) l) (getD s n 0) (n + 1) z
-    ∙ sym (rw (g, a) (ap (λ (y : List ℕ). x ∷ y) (append-assoc (take n s) (getD s n 0 ∷ []) (drop (suc (n + 1)) l))))
-
-pub filled-all : (l m s : List ℕ) (n x : ℕ) → n ≡ length s → m ≡ (x ∷ take n s) ++ drop (n + 1) (set l 0 x) → m ≡ (x ∷ s) ++ drop (length s + 1) l
-filled-all l m s n x h e =
-    let k : 0 < length s + 1 = omega arith in
-    rw (h, take-length s, drop-set-lt (length s + 1) l 0 x k) at e
-
-pub filled-length : (l m s : List ℕ) (n x : ℕ) → n ≤ length s → n < length l → m ≡ (x ∷ take n s) ++ drop (n + 1) l → length m ≡ length l
-filled-length l m s n x h k e =
-    let b : n + 1 ≡ suc n = add-one n in
-    let z : length (x ∷ take n s) ≡ n + 1 = rw b (ap suc (length-take-le n s h)) in
-    ap length e ∙ length-append (x ∷ take n s) (drop (n + 1) l) ∙ (rw (z, length-drop (n + 1) l) (omega arith))
-
 -- what an opening comes to
-module _ (p : Pen) (list o : List ℕ) (w : Way) (i : ℕ) where
-  pub opens-idle : idle (p .stop) ≡ true → leaves list (opening.Stopped p) ≡ opensTo p list o w i
+module _ (p : Pen) (list : List ℕ) (left : ℕ) (w : Way) (i : ℕ) where
+  pub opens-idle : idle (p .stop) ≡ true → leaves list (opening.Stopped p) ≡ opensTo p list left w i
   unfolding opensTo
   opens-idle a = rw a
 
   module _ (a : idle (p .stop) ≡ false) where
-    pub opens-again : (q : Pen) → hasIndex i (keysOf o) ≡ true → q ≡ refusedPen p (CircularTypeDefinition i) → leaves list (opening.Stopped q) ≡ opensTo p list o w i
+    pub opens-again : (q : Pen) → hasIndex i (keysOf (drop left list)) ≡ true → q ≡ refusedPen p (CircularTypeDefinition i) → leaves list (opening.Stopped q) ≡ opensTo p list left w i
     unfolding opensTo
     opens-again q b e = rw (a, b, e, refused-alive p (CircularTypeDefinition i) a)
 
-    module _ (b : hasIndex i (keysOf o) ≡ false) where
-      pub opens-full : (q : Pen) → length list ≤ length o → q ≡ refusedPen p (TooManyOpen i) → leaves list (opening.Stopped q) ≡ opensTo p list o w i
+    module _ (b : hasIndex i (keysOf (drop left list)) ≡ false) where
+      pub opens-full : (q : Pen) → left ≡ 0 → q ≡ refusedPen p (TooManyOpen i) → leaves list (opening.Stopped q) ≡ opensTo p list left w i
       unfolding opensTo
-      opens-full q f e = rw (a, b, le-leb (length list) (length o) f, e, refused-alive p (TooManyOpen i) a)
+      opens-full q f e = rw (a, b, eq-eqb left 0 f, e, refused-alive p (TooManyOpen i) a)
 
-      pub opens-in : (q : Pen) (m : List ℕ) (n : ℕ) → length o < length list → q ≡ counted p → n ≡ length o + 1 → m ≡ (noted w i ∷ o) ++ drop (length o + 1) list
-          → leaves m (opening.Open q n) ≡ opensTo p list o w i
+      pub opens-in : (q : Pen) (x : ℕ) → (left ≡ 0 → ⊥) → q ≡ counted p → x ≡ wayOf w → leaves (set list (left - 1) (x * 4_294_967_296 + i)) (opening.Open q (left - 1)) ≡ opensTo p list left w i
       unfolding opensTo
-      opens-in q m n f e g k = rw (a, b, lt-leb (length list) (length o) f, e, g, k)
+      opens-in q x f e g = rw (a, b, ne-eqb left 0 f, e, g)
 
 -- an index that is opened, then read
 module _ {l : List ℕ} {r : Opening} {x : Leaves Opening} {y z : TypeRead} (e : leaves l r ≡ x) where

@@ -1,16 +1,18 @@
 -- What comes of opening an index: the list, and the answer (document 01, "Writing rules": opening).
-use Prim.Native.Nat.{ℕ, _+_, _*_, _<_}
+use Prim.Native.Nat.{ℕ, _+_, _-_, _*_, _<_}
 use mathlib.Core.Path.{_≡_}
-use mathlib.Core.List.{List, _∷_, _++_}
-use lib.ListN.{length, drop}
-use lib.Dec.{leb}
+use mathlib.Core.List.{List}
+use lib.ListN.{drop, set}
+use lib.Dec.{eqb}
 use Rattle.wire.specs.Field.{pick}
+use Rattle.streams.specs.declared.refusal.Refusal.{Refusal}
 use Rattle.streams.specs.declared.refusal.Refusal.the-variants.{CircularTypeDefinition, TooManyOpen}
 use Rattle.streams.specs.declared.stream.Stream.{Stream}
 use Rattle.codeview.specs.Read.{readType}
 use Rattle.codeview.specs.declared.record.TypeRead.{TypeRead}
 use Rattle.codeview.specs.declared.record.TypeRead.the-variants as typeRead
-use Rattle.pen.specs.Page.{idle, gone, counted, unreadPen}
+use Rattle.interpreter.specs.Trace.{Trace}
+use Rattle.pen.specs.Page.{Page, Wrote, idle, gone, counted, unreadPen}
 use Rattle.pen.specs.declared.Pen.{Pen}
 use Rattle.context.specs.Context.{keysOf, hasIndex}
 use Rattle.context.specs.declared.seen.Way.{Way}
@@ -41,17 +43,18 @@ pub record Leaves (A : Type 0) : Type 0 where
 abbrev pub leaves : {A : Type 0} → List ℕ → A → Leaves A
 leaves l r = record { list = l; answer = r }
 
--- A stopped pen opens nothing; "12 is tested before 13"; an index that is opened comes before those that are open, over what the list held, and is counted.
-unfoldable pub opensTo : Pen → List ℕ → List ℕ → Way → ℕ → Leaves Opening
-opensTo p list seen w i =
+-- A stopped pen opens nothing; "12 is tested before 13"; an index that is opened is written right below those that are open, which begin there then, and is
+-- counted.
+unfoldable pub opensTo : Pen → List ℕ → ℕ → Way → ℕ → Leaves Opening
+opensTo p list left w i =
     pick (idle (p .stop)) (leaves list (opening.Stopped p))
-    (pick (hasIndex i (keysOf seen)) (leaves list (opening.Stopped (gone (p .limit) (CircularTypeDefinition i))))
-    (pick (leb (length list) (length seen)) (leaves list (opening.Stopped (gone (p .limit) (TooManyOpen i))))
-    (leaves ((noted w i ∷ seen) ++ drop (length seen + 1) list) (opening.Open (counted p) (length seen + 1)))))
+    (pick (hasIndex i (keysOf (drop left list))) (leaves list (opening.Stopped (gone (p .limit) (CircularTypeDefinition i))))
+    (pick (eqb left 0) (leaves list (opening.Stopped (gone (p .limit) (TooManyOpen i))))
+    (leaves (set list (left - 1) (noted w i)) (opening.Open (counted p) (left - 1)))))
 
 -- What `open_index` leaves; the index is a u32.
-pub record Opens (p : Pen) (list seen : List ℕ) (w : Way) (i : ℕ) (l : List ℕ) (r : Opening) : Type 0 where
-  pub is : leaves l r ≡ opensTo p list seen w i
+pub record Opens (p : Pen) (list : List ℕ) (left : ℕ) (w : Way) (i : ℕ) (l : List ℕ) (r : Opening) : Type 0 where
+  pub is : leaves l r ≡ opensTo p list left w i
   pub small : i < 4_294_967_296
 
 -- "Opened, then read": what follows from the opening and from what the index stands for.
@@ -67,6 +70,11 @@ unfoldable pub opensTypeTo : TypeRead → Leaves Opening → Leaves TypeOpening
 opensTypeTo r x = leaves (x .list) (openedTo r (x .answer))
 
 -- What `open_type` leaves.
-pub record OpensType (types : List ℕ) (t : Stream) (p : Pen) (list seen : List ℕ) (w : Way) (i : ℕ) (l : List ℕ) (r : TypeOpening) : Type 0 where
-  pub is : leaves l r ≡ opensTypeTo (readType types t i) (opensTo p list seen w i)
+pub record OpensType (types : List ℕ) (t : Stream) (p : Pen) (list : List ℕ) (left : ℕ) (w : Way) (i : ℕ) (l : List ℕ) (r : TypeOpening) : Type 0 where
+  pub is : leaves l r ≡ opensTypeTo (readType types t i) (opensTo p list left w i)
   pub small : i < 4_294_967_296
+
+-- What a writer leaves that is lent the list: the page h is what the trace makes of the page g, by those that are open; and these stay as they are, at exit too.
+pub record Writes (left : ℕ) (list l : List ℕ) (g : Page) (t : List ℕ → Trace Refusal) (h : Page) : Type 0 where
+  pub wrote : Wrote g (t (drop left list)) h
+  pub kept : drop left l ≡ drop left list

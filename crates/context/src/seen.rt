@@ -1,12 +1,11 @@
 // The indexes that are open, and the one opening of an index: what is tested, noted and counted then. An open index and the way it came are packed in one
-// number; the newest comes first. A writer that opens an index has a list of 96 by value, which is filled with one more than the writer was lent, and
-// lends that to what it calls: nothing is taken back when it ends.
+// number. One list of 96 is lent to all writers: the open ones lie from `left` to its end, the newest first. An opening is written right below them, and
+// what is called is lent the list with the new `left`: nothing is copied, and nothing is taken back when a writer ends.
 ghost use mathlib.Core.Path.{_≡_};
-ghost use mathlib.Core.List.{_∷_, _++_};
-ghost use Prim.Native.Nat.{_+_, _*_, _<_};
+ghost use Prim.Native.Nat.{_≤_, _<_};
 ghost use lib.ListN.{length, drop};
 ghost use Rattle.context.specs.Context.{keysOf, hasIndex};
-ghost use Rattle.context.specs.Opening.{wayOf, noted, Opens, OpensType};
+ghost use Rattle.context.specs.Opening.{wayOf, Opens, OpensType};
 use codeview::index::TypeIndex;
 use codeview::record::TypeData;
 use codeview::record::TypeRead;
@@ -26,7 +25,7 @@ pub enum Way {
     List,
 }
 
-// What an opening comes to: the index is open, the pen has counted it, and so many are open now; or nothing is opened, and the pen has stopped.
+// What an opening comes to: the index is open, the pen has counted it, and this is where the open ones begin now; or nothing is opened, and the pen has stopped.
 pub enum Opening {
     Open(Pen, usize),
     Stopped(Pen),
@@ -38,11 +37,11 @@ pub enum TypeOpening {
     Stopped(Pen),
 }
 
-fn has(seen: &[u64], index: u32) -> bool
-    ensures { λ r. ⌜ r ≡ hasIndex index (keysOf (now (seen .entry))) ⌝ }
+fn has(seen: &[u64], left: usize, index: u32) -> bool
+    ensures { λ r. ⌜ r ≡ hasIndex index (keysOf (drop left (now (seen .entry)))) ⌝ }
 {
     let wanted = index as u64;
-    let mut i = 0;
+    let mut i = left;
     while i < seen.len() {
         if seen[i] % 4_294_967_296 == wanted {
             return true;
@@ -65,36 +64,23 @@ fn way_number(way: Way) -> u64
     }
 }
 
-// A list of an open index and of those before it, over what was there, and how many they are.
-fn insert(list: &mut [u64], seen: &[u64], way: Way, index: u32) -> usize
-    requires { ⌜ length (now seen) < length (now list) ⌝ }
-    ensures { λ r. ⌜ (r ≡ length (now (seen .entry)) + 1) × (now (list .exit) ≡ (noted way index ∷ now (seen .entry)) ++ drop (length (now (seen .entry)) + 1) (now (list .entry))) ⌝ }
-{
-    let number = way_number(way);
-    list[0] = number * 4_294_967_296 + (index as u64);
-    let mut i = 0;
-    while i < seen.len() {
-        list[i + 1] = seen[i];
-        i += 1;
-    }
-    i + 1
-}
-
-// Opens an index in a list, where those of `seen` are open: 12 where it is one of them, 13 where the list has no room for one more.
-pub fn open_index(p: Pen, list: &mut [u64], seen: &[u64], way: Way, index: TypeIndex) -> Opening
-    ensures { λ r. ⌜ Opens p (now (list .entry)) (now (seen .entry)) way (index .0) (now (list .exit)) r ⌝ }
+// Opens an index in a list, where those from `left` on are open: 12 where it is one of them, 13 where the list has no room for one more.
+pub fn open_index(p: Pen, seen: &mut [u64], left: usize, way: Way, index: TypeIndex) -> Opening
+    requires { ⌜ left ≤ length (now seen) ⌝ }
+    ensures { λ r. ⌜ Opens p (now (seen .entry)) left way (index .0) (now (seen .exit)) r ⌝ }
 {
     if pen::is_idle(p) {
         return Opening::Stopped(p);
     }
-    if has(seen, index.0) {
+    if has(seen, left, index.0) {
         return Opening::Stopped(pen::stopped(p, Refusal::CircularTypeDefinition(index.0)));
     }
-    if list.len() <= seen.len() {
+    if left == 0 {
         return Opening::Stopped(pen::stopped(p, Refusal::TooManyOpen(index.0)));
     }
-    let n = insert(list, seen, way, index.0);
-    Opening::Open(pen::tick(p), n)
+    let number = way_number(way);
+    seen[left - 1] = number * 4_294_967_296 + (index.0 as u64);
+    Opening::Open(pen::tick(p), left - 1)
 }
 
 // Opens an index, then reads it. A missing one ends the text.
@@ -102,14 +88,15 @@ pub fn open_type(
     types: &[u8],
     stream: Stream,
     p: Pen,
-    list: &mut [u64],
-    seen: &[u64],
+    seen: &mut [u64],
+    left: usize,
     way: Way,
     index: TypeIndex,
 ) -> TypeOpening
-    ensures { λ r. ⌜ OpensType (now (types .entry)) stream p (now (list .entry)) (now (seen .entry)) way (index .0) (now (list .exit)) r ⌝ }
+    requires { ⌜ left ≤ length (now seen) ⌝ }
+    ensures { λ r. ⌜ OpensType (now (types .entry)) stream p (now (seen .entry)) left way (index .0) (now (seen .exit)) r ⌝ }
 {
-    match open_index(p, list, seen, way, index) {
+    match open_index(p, seen, left, way, index) {
         Opening::Open(q, n) => match type_at(types, stream, index) {
             TypeRead::Good(t) => TypeOpening::Open(q, n, t),
             TypeRead::Refused(f) => TypeOpening::Stopped(pen::unreadable(q, f)),

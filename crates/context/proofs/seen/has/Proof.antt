@@ -13,10 +13,10 @@ use Rattle.context.proofs.seen.has.Reads as reads
 use Rattle.context.proofs.seen.has.Lts as lts
 
 abbrev Inv-loop : tie.InvT-loop
-Inv-loop seen index wanted i₀ i = hasIndex index (keysOf seen) ≡ hasIndex index (keysOf (drop i seen))
+Inv-loop seen left index wanted i₀ i = hasIndex index (keysOf (drop left seen)) ≡ hasIndex index (keysOf (drop i seen))
 
 abbrev μ-loop : tie.MeasureT-loop
-μ-loop seen index wanted i₀ i = length seen - i
+μ-loop seen left index wanted i₀ i = length seen - i
 
 loop-holds : tie.Need-loop-holds Inv-loop μ-loop
 loop-holds c = refl

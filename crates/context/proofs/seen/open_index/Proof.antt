@@ -1,4 +1,4 @@
--- By what is tested, in turn; an index that is opened comes before the others.
+-- By what is tested, in turn; an index that is opened comes right below the others.
 -- Assumes nothing.
 use borrow.Author.Needs.{needs}
 use native.Mathlib.Omega.{arith}
@@ -11,7 +11,7 @@ is-idle-requires : tie.Need-is-idle-requires
 is-idle-requires c κs = search needs
 
 returns : tie.Need-returns
-returns c = record { is = opens-idle _ _ _ _ _ (cc); small = search (c .before .before .before .before .good .1 .1 .1 .1 .0, needs) }
+returns c = record { is = opens-idle _ _ _ _ _ (cc); small = search (c .before .before .before .good .1 .1 .1 .1 .0, needs) }
 
 has-requires : tie.Need-has-requires
 has-requires c κs = search needs
@@ -19,26 +19,53 @@ has-requires c κs = search needs
 stopped-requires : tie.Need-stopped-requires
 stopped-requires c κs = search needs
 
+same-length : tie.Need-same-length
+same-length c = search needs
+
 returns-2 : tie.Need-returns-2
 returns-2 c = record { is = opens-again _ _ _ _ _ (cc) _ (cc) (c .stopped .ensures); small = search (c .before .before .before .before .before .before .before .good .1 .1 .1 .1 .0, needs) }
 
 stopped-requires-2 : tie.Need-stopped-requires-2
 stopped-requires-2 c κs = search needs
 
-returns-3 : tie.Need-returns-3
-returns-3 c = record { is = opens-full _ _ _ _ _ (cc) (cc) _ (omega arith) (c .stopped2 .ensures); small = search (c .before .before .before .before .before .before .before .before .good .1 .1 .1 .1 .0, needs) }
+same-length-2 : tie.Need-same-length-2
+same-length-2 c = search needs
 
-insert-requires : tie.Need-insert-requires
-insert-requires c κs = search needs
+returns-3 : tie.Need-returns-3
+returns-3 c = record { is = opens-full _ _ _ _ _ (cc) (cc) _ (cc) (c .stopped2 .ensures); small = search (c .before .before .before .before .before .before .before .before .good .1 .1 .1 .1 .0, needs) }
+
+way-number-requires : tie.Need-way-number-requires
+way-number-requires c κs = search needs
+
+mul-seen : tie.Need-mul-seen
+mul-seen c = search needs
+
+cast-seen : tie.Need-cast-seen
+cast-seen c = search needs
+
+add-seen : tie.Need-add-seen
+add-seen c = search needs
+
+sub-seen : tie.Need-sub-seen
+sub-seen c = search needs
+
+mul-seen-2 : tie.Need-mul-seen-2
+mul-seen-2 c = search needs
+
+slice-write-seen : tie.Need-slice-write-seen
+slice-write-seen c = search needs
 
 tick-requires : tie.Need-tick-requires
 tick-requires c κs = search needs
 
-same-length : tie.Need-same-length
-same-length c = search needs
+sub-t19 : tie.Need-sub-t19
+sub-t19 c = search needs
+
+same-length-3 : tie.Need-same-length-3
+same-length-3 c = search needs
 
 returns-4 : tie.Need-returns-4
-returns-4 c = record { is = opens-in _ _ _ _ _ (cc) (cc) _ _ _ (omega arith) (c .tick .ensures) (c .before .before .before .insert .ensures .0) (c .before .before .before .insert .ensures .1); small = search (c .before .before .before .before .before .before .before .before .before .before .before .before .good .1 .1 .1 .1 .0, needs) }
+returns-4 c = record { is = opens-in _ _ _ _ _ (cc) (cc) _ _ (c .before .before .before .if3 .left) (c .tick .ensures) (c .before .before .way-number .ensures .0); small = search (c .before .before .before .before .before .before .before .before .before .before .good .1 .1 .1 .1 .0, needs) }
 
 pub open-index-spec : {M : Type 1} → statement M
 open-index-spec =
@@ -48,10 +75,19 @@ open-index-spec =
     returns
     has-requires
     stopped-requires
+    same-length
     returns-2
     stopped-requires-2
+    same-length-2
     returns-3
-    insert-requires
+    way-number-requires
+    mul-seen
+    cast-seen
+    add-seen
+    sub-seen
+    mul-seen-2
+    slice-write-seen
     tick-requires
-    same-length
+    sub-t19
+    same-length-3
     returns-4)
