@@ -28,6 +28,8 @@ with the answer above it; `#` starts a comment):
   default RE = term             for each need that has no answer of its own and whose name RE matches: first match wins,
                                 and one that would name nothing (@@chain with no writer on the way) is passed over
   facts F.., writers F..        the calls that @@facts and @@chain name
+  lent F..                      the writers that are lent the list of open indexes: @@chain is then joined by ▸▸, and what
+                                the others promise is given to `plain`
   | text                        as it is: a function's heading, invariants, definitions of its own. The names that
                                 `Inv-..` and `μ-..` bind follow the code
   same-length in place          the needs same-length stand in the order of the code, not behind the others
@@ -43,7 +45,7 @@ In a term
   @^x            the thing x of the start, where a step has the same name
   @good[p]       .good .1 .1 .. .0, the part of parameter p; and a[p], in a measure, a .1 .1 .. .0
   @@facts        every `if` and `match` on the way, `pre`, `fits`, then the `ensures` of the calls listed in `facts`
-  @@chain        the `ensures` of the calls listed in `writers`, first to last, joined by ▸
+  @@chain        the `ensures` of the calls listed in `writers`, first to last, joined by ▸ (or ▸▸)
   @@returns      the answer of the `returns` that stands at the same place, applied
 
 The parts of this tool are in tools/proofs.

@@ -107,6 +107,12 @@ class Terms(unittest.TestCase):
         self.assertEqual(expand('@@facts; @@chain', small_shape(), 'returns', answers), '@if1, @pre, @text .ensures; @text .ensures')
         self.assertEqual(expand('@@returns', small_shape(), 'returns', answers), '(returns c)')
 
+    def test_a_chain_of_writers_that_are_lent_the_list(self):
+        steps = {'Start': Step('', ['args']), 'After-text': Step('Start', ['text']), 'After-emit': Step('After-text', ['emit'])}
+        shape = Shape(1, ['out'], steps, {'returns': 'After-emit'}, ['returns'], ['pen::text', 'emit::emit'])
+        answers = Answers('function', 'f', writers=['emit', 'text'], lent=['emit'])
+        self.assertEqual(expand('@@chain', shape, 'returns', answers), 'plain (@text .ensures) ▸▸ @emit .ensures')
+
 
 class Carrying(unittest.TestCase):
     def test_names_and_needs_follow_the_code(self):

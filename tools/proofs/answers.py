@@ -33,6 +33,7 @@ class Answers:
     reads: list = field(default_factory=list)           # the called functions, in the order of their use lines
     facts: list = field(default_factory=list)           # the calls whose ensures belong to @@facts
     writers: list = field(default_factory=list)         # the calls whose ensures belong to @@chain
+    lent: list = field(default_factory=list)            # those of them that are lent the list of open indexes
     defaults: list = field(default_factory=list)        # (regular expression, Answer): first match wins
     order: list = field(default_factory=list)           # the members, in the order of their use lines
     lengths_last: bool = True                           # the needs same-length stand behind the others
@@ -52,7 +53,7 @@ class Answers:
 
     def default(self, need, shape):
         for pattern, answer in self.defaults:
-            names_nothing = ('@@chain' in answer.term and not chain_at(shape, need, self.writers)
+            names_nothing = ('@@chain' in answer.term and not chain_at(shape, need, self)
                              or '@@returns' in answer.term and not returns_at(shape, need))
             if re.fullmatch(pattern, need) and not names_nothing:
                 return answer
@@ -73,7 +74,7 @@ def show_answer(name, answer):
 def show_answers(answers):
     out = [f'{answers.kind} {answers.name}'] + barred(answers.head)
     out += ['common ' + line for line in answers.common] + answers.use
-    for word in ('order', 'reads', 'facts', 'writers'):
+    for word in ('order', 'reads', 'facts', 'writers', 'lent'):
         if getattr(answers, word):
             out.append(word + ' ' + ' '.join(getattr(answers, word)))
     if not answers.lengths_last:
@@ -124,7 +125,7 @@ def read_answers(text):
             (member if member and kind == 'cycle' else answers).use.append(entry)
         elif word == 'common':
             answers.common.append(value)
-        elif word in ('order', 'reads', 'facts', 'writers') and '=' not in entry:
+        elif word in ('order', 'reads', 'facts', 'writers', 'lent') and '=' not in entry:
             setattr(answers, word, value.split())
         elif entry == 'same-length in place':
             answers.lengths_last = False

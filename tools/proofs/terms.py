@@ -86,11 +86,13 @@ def is_of_start(shape, need, thing):
     return places.get(thing) == places.get('^' + thing)
 
 
-def chain_at(shape, need, writers):
+def chain_at(shape, need, answers):
     """@@chain: the `ensures` of the writers that were called on the way, first to last."""
     called = sorted(((d, x) for x, d in shape.places(need).items()
-                     if not x.startswith('^') and base(x) in writers and not is_of_start(shape, need, x)), reverse=True)
-    return ' ▸ '.join(f'@{x} .ensures' for _, x in called)
+                     if not x.startswith('^') and base(x) in answers.writers and not is_of_start(shape, need, x)), reverse=True)
+    if not answers.lent:
+        return ' ▸ '.join(f'@{x} .ensures' for _, x in called)
+    return ' ▸▸ '.join(f'@{x} .ensures' if base(x) in answers.lent else f'plain (@{x} .ensures)' for _, x in called)
 
 
 def returns_at(shape, need):
@@ -110,7 +112,7 @@ def expand(term, shape, need, answers):
     if '@@facts' in term:
         term = term.replace('@@facts', ', '.join(facts_at(shape, need, answers.facts)))
     if '@@chain' in term:
-        term = term.replace('@@chain', chain_at(shape, need, answers.writers))
+        term = term.replace('@@chain', chain_at(shape, need, answers))
     if '@@returns' in term:
         returns = returns_at(shape, need)
         term = term.replace('@@returns', applied(returns, answers.is_cycle) if returns else '?')
@@ -122,9 +124,9 @@ def fold(term, shape, need, answers):
     facts = facts_at(shape, need, answers.facts)
     if len(facts) > 1 or facts == ['@pre']:
         term = re.sub(r'(?<=[( ])' + re.escape(', '.join(facts)) + r', needs\)', '@@facts, needs)', term)
-    chain = chain_at(shape, need, answers.writers)
+    chain = chain_at(shape, need, answers)
     if chain:
-        term = re.sub(r'^wrote-by \(' + re.escape(chain) + r'\)', 'wrote-by (@@chain)', term)
+        term = re.sub(r'^(wrote|writes)-by \(' + re.escape(chain) + r'\)', r'\1-by (@@chain)', term)
         term = term.replace('wrote-step ▸ ' + chain + ')', 'wrote-step ▸ @@chain)')
     returns = returns_at(shape, need)
     if returns:

@@ -4,7 +4,7 @@ use mathlib.Core.Path.{_≡_, refl, ap, ap₂, sym, _∙_}
 use mathlib.Core.List.{List, [], _∷_}
 use mathlib.Core.Bool.{Bool, true, false, _||_}
 use lib.Dec.{eqb, leb}
-use lib.ListN.{length, drop, set, length-set, length-drop}
+use lib.ListN.{length, drop, set, length-set, length-drop, drop-of-length-le}
 use lib.Seq.{drop-drop, drop-set-lt}
 use native.Mathlib.Omega.{arith}
 use borrow.Author.Tests.{lt-leb, le-leb, eqb-true, eqb-false}
@@ -25,9 +25,9 @@ use Rattle.rules.specs.Record.{Record, good, bad, Table, typeContents, typeAsRe
 use Rattle.rules.specs.Task.{Task, Rule, inside, unread}
 use Rattle.rules.specs.Opening.{sameIndex, entryOf, body, rank, walked, ruled}
 use Rattle.rules.proofs.Rank.{ranked}
-use Rattle.pen.specs.Page.{Page, page, Wrote, idle, gone, counted, unreadPen, unreadTrace, step, opened, stopOf, _⨾_}
+use Rattle.pen.specs.Page.{Page, page, Wrote, Caught, idle, gone, counted, unreadPen, unreadTrace, writing, lastSince, step, opened, stopOf, _⨾_, ending, marking}
 use Rattle.pen.specs.declared.Pen.{Pen}
-use Rattle.pen.proofs.Laws.{_▸_, wrote-by, wrote-idle, wrote-stop, wrote-counted, wrote-unread, refused-alive}
+use Rattle.pen.proofs.Laws.{_▸_, wrote-by, wrote-ending, wrote-marking, wrote-length, wrote-idle, wrote-stop, wrote-counted, wrote-unread, refused-alive}
 use Rattle.context.specs.declared.flags.Call.{Call}
 use Rattle.context.specs.declared.seen.Way.{Way}
 use Rattle.context.specs.declared.seen.Opening.{Opening}
@@ -143,16 +143,39 @@ type-in {types} {stream} {p} {list} {left} {w} {i} {l} {r} {q} {n} {d} z room lo
     by (opening.Open u k) m (typeRead.Refused a) g h v = absurd (never (ap (λ (a : Leaves TypeOpening). a .answer) v))
     by (opening.Stopped u) m y g h v = absurd (never (ap (λ (a : Leaves TypeOpening). a .answer) v))
 
--- Writers that are lent the list, one after another; one that is not lent it; and the same writing by another name for its trace.
+-- What is written without the list, and the same writing by what was open at another time.
 pub plain : {left : ℕ} {list : List ℕ} {g h : Page} {t : Trace Refusal} → Wrote g t h → Writes left list list g (λ o. t) h
 plain w = record { wrote = w; kept = refl }
 
+pub unlent : {left : ℕ} {list : List ℕ} {g h : Page} {t : List ℕ → Trace Refusal} → Wrote g (t (drop left list)) h → Writes left list list g t h
+unlent w = record { wrote = w; kept = refl }
+
+pub wrote-at : {left : ℕ} {list l o : List ℕ} {g h : Page} {t : List ℕ → Trace Refusal} → Writes left list l g t h → drop left list ≡ o → Wrote g (t o) h
+wrote-at {t = t} a e = wrote-by (a .wrote) (ap t e)
+
+-- And by what is open at first, in a list that is lent whole: nothing.
+pub wrote-first : {list l : List ℕ} {g h : Page} {t : List ℕ → Trace Refusal} → Writes 96 list l g t h → length list ≡ 96 → Wrote g (t []) h
+wrote-first {list} a e = wrote-at a (drop-of-length-le list {i = 96} (omega arith))
+
+-- Writers that are lent the list, one after another; what is written by the last byte; what goes on where an index was missing; the same writing by another
+-- name for its trace.
 infixr 30 _▸▸_
 pub _▸▸_ : {left : ℕ} {list l m : List ℕ} {g h k : Page} {t u : List ℕ → Trace Refusal} → Writes left list l g t h → Writes left l m h u k → Writes left list m g (λ o. t o ⨾ u o) k
-_▸▸_ {u = u} a b = record { wrote = a .wrote ▸ wrote-by (b .wrote) (ap u (a .kept)); kept = b .kept ∙ a .kept }
+a ▸▸ b = record { wrote = a .wrote ▸ wrote-at b (a .kept); kept = b .kept ∙ a .kept }
+
+pub writes-ending : {left : ℕ} {list l : List ℕ} {g h k : Page} {t : List ℕ → Trace Refusal} (f : ℕ → List ℕ) (start : ℕ) → start ≡ g .pen .at → Writes left list l g t h
+    → Wrote h (writing (f (lastSince (h .pen) start))) k → Writes left list l g (λ o. ending (t o) f) k
+writes-ending f start s a w = record { wrote = wrote-ending f start s (a .wrote) w; kept = a .kept }
+
+pub writes-marking : {left : ℕ} {list l : List ℕ} {g h k : Page} {t : List ℕ → Trace Refusal} {u : ℕ → Trace Refusal} → idle (g .pen .stop) ≡ false → Writes left list l g t h
+    → Caught h u k → Writes left list l g (λ o. marking (t o) u) k
+writes-marking e a f = record { wrote = wrote-marking e (a .wrote) f; kept = a .kept }
 
 pub writes-by : {left : ℕ} {list l : List ℕ} {g h : Page} {t u : List ℕ → Trace Refusal} → Writes left list l g t h → t (drop left list) ≡ u (drop left list) → Writes left list l g u h
 writes-by a e = record { wrote = wrote-by (a .wrote) e; kept = a .kept }
+
+pub writes-length : {left : ℕ} {list l : List ℕ} {g h : Page} {t : List ℕ → Trace Refusal} → Writes left list l g t h → length (h .buf) ≡ length (g .buf)
+writes-length a = wrote-length (a .wrote)
 
 module _ (s d : List ℕ) (call : Call) where
   abbrev c : Settings

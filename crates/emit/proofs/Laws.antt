@@ -4,7 +4,7 @@ use mathlib.Core.Path.{_≡_, refl, ap, ap₂, sym, _∙_}
 use mathlib.Core.List.{List, [], _∷_, _++_, append-assoc}
 use mathlib.Core.Bool.{Bool, true, false, _||_, _&&_}
 use lib.Dec.{eqb, leb}
-use lib.ListN.{length, take}
+use lib.ListN.{length, drop}
 use native.Mathlib.Nat.{zero-add}
 use native.Mathlib.Numerals.{add-one}
 use native.Mathlib.Omega.{arith}
@@ -108,8 +108,8 @@ use Rattle.context.specs.declared.seen.Opening.the-variants as opening
 use Rattle.context.specs.declared.seen.TypeOpening.{TypeOpening}
 use Rattle.context.specs.declared.seen.TypeOpening.the-variants as typeOpening
 use Rattle.context.specs.Context.{settingsOf, tableIn, holding, sizesOf}
-use Rattle.context.specs.Opening.{wayOf, Opens, OpensType}
-use Rattle.context.proofs.Opening.{In, in-length, ruled-pick, unread-is, read-good, read-bad, walk-on, open-in, opened-then, stopped-then, type-stopped, type-open}
+use Rattle.context.specs.Opening.{wayOf, Opens, OpensType, Writes}
+use Rattle.context.proofs.Opening.{ruled-pick, unread-is, read-good, read-bad, walk-on, open-in, opened-then, stopped-then, type-stopped, type-open, writes-by}
 use Rattle.leaf_writers.specs.Marks.{markTrace}
 use Rattle.leaf_writers.specs.Fragments.{recordText, isSign}
 use Rattle.queries.specs.This.{thisOf, byThis}
@@ -125,13 +125,6 @@ use Rattle.queries.specs.declared.sizes.SizeRead.{SizeRead}
 use Rattle.queries.specs.declared.sizes.SizeRead.the-variants as sized
 use Rattle.emit.specs.Walking.{methodOf, plainPointed, aimedAt, wayTo, aimedRule}
 
--- What is lent on once an index is open.
-pub in-lent : {p : Pen} {o : List ℕ} {w : Way} {i : ℕ} {l : List ℕ} {q : Pen} {n : ℕ} → In p o w i l q n → n ≡ length (take n l)
-in-lent k = k .many ∙ sym (in-length k)
-
-pub in-fits : {p : Pen} {o : List ℕ} {w : Way} {i : ℕ} {l : List ℕ} {q : Pen} {n : ℕ} → In p o w i l q n → n ≤ length l
-in-fits k = omega (arith, k .many, k .few, k .all)
-
 -- Taking up records without opening them changes nothing of a page.
 wrote-taken : {g : Page} (k : ℕ) → Wrote g (tr [] done [] (count 0 k)) g
 unfolding pageAfter step
@@ -139,6 +132,9 @@ wrote-taken {g} k = record { is = wrote-step {g = g} .is }
 
 pub wrote-later : {g h : Page} {t : Trace Refusal} (k : ℕ) → Wrote g t h → Wrote g (prefix [] [] (count 0 k) t) h
 wrote-later {g} {h} {t} k w = wrote-taken {g = g} k ▹ w
+
+pub writes-later : {left : ℕ} {list l : List ℕ} {g h : Page} {t : List ℕ → Trace Refusal} (k : ℕ) → Writes left list l g t h → Writes left list l g (λ o. prefix [] [] (count 0 k) (t o)) h
+writes-later k a = record { wrote = wrote-later k (a .wrote); kept = a .kept }
 
 -- What goes by the bytes of a part.
 then-same : (t : Trace Refusal) (f g : List ℕ → Trace Refusal) → ((bs : List ℕ) → f bs ≡ g bs) → then t f ≡ then t g
@@ -324,75 +320,12 @@ module _ (s d : List ℕ) (call : Call) (o : List ℕ) where
   abbrev h : Held
   h = holding call o
 
-  -- An index by itself: what cannot be read is its mark; what can be read is opened then.
+  -- An index by itself: what cannot be read is its mark.
   pub self-bad : (i : ℕ) (r : TypeRead) (f : Refusal) → r ≡ readType s (call .types) i → r ≡ Refused f → step ⨾ markTrace f ≡ walked c t h (byItself i)
   unfolding entryOf body afterRead alone
   self-bad i r f e g =
       let k : t .types i ≡ bad f = read-bad s d call o i r f e g in
       ap (λ (x : Trace Refusal). step ⨾ x) (marked-is c t h f) ∙ walk-on s d call o (byItself i) (marked f) (rw k) (rw k)
-
-  module _ {r : TypeRead} {x : TypeData} {i : ℕ} (b : List ℕ) (e : r ≡ readType s (call .types) i) (g : r ≡ Good x) {p : Pen} {list l : List ℕ} {y : Opening}
-      (z : Opens p list o way.Itself i l y) (room : length list ≡ 96) where
-    self-entry : entryOf c t (byItself i) ≡ opens (key 1 i)
-    unfolding entryOf afterRead
-    self-entry = rw (read-good s d call o i r x e g)
-
-    self-body : body c t (byItself i) ≡ texted (typeText c (typeContents s x))
-    unfolding body alone
-    self-body = rw (read-good s d call o i r x e g)
-
-    pub self-stopped : {q : Pen} → y ≡ opening.Stopped q → Wrote (page b p) (walked c t h (byItself i)) (page b q)
-    self-stopped f = stopped-then s d call o (byItself i) way.Itself i self-entry b z room f
-
-    pub self-open : {q : Pen} {n : ℕ} {j : Page} → y ≡ opening.Open q n
-        → Wrote (page b q) (ruled c t (holding call (take n l)) (texted (typeText c (typeContents s x)))) j → Wrote (page b p) (walked c t h (byItself i)) j
-    self-open f v = opened-then s d call o (byItself i) way.Itself i self-entry b (texted (typeText c (typeContents s x))) (open-in z room f) self-body v
-
-  -- A pointer's target, and that of a pointer's modifier.
-  module _ (m : Bool) (i : ℕ) (ls : List Level) where
-    aimed-entry : entryOf c t (aimedAt m i ls) ≡ opens (key (wayOf (wayTo m)) i)
-    unfolding entryOf
-    aimed-entry = by m
-      where
-        by : (m : Bool) → entryOf c t (aimedAt m i ls) ≡ opens (key (wayOf (wayTo m)) i)
-        by true = refl
-        by false = refl
-
-    aimed-body : body c t (aimedAt m i ls) ≡ inside (t .types i) (aimedRule c m ls)
-    unfolding body
-    aimed-body = by m
-      where
-        by : (m : Bool) → body c t (aimedAt m i ls) ≡ inside (t .types i) (aimedRule c m ls)
-        by true = refl
-        by false = refl
-
-    module _ {w : Way} {p : Pen} {list l : List ℕ} {r : TypeOpening} (b : List ℕ) (u : w ≡ wayTo m) (z : OpensType s (call .types) p list o w i l r) (room : length list ≡ 96) where
-      way-is : OpensType s (call .types) p list o (wayTo m) i l r
-      way-is = rw u at z
-
-      pub aimed-stopped : {q : Pen} → r ≡ typeOpening.Stopped q → Wrote (page b p) (walked c t h (aimedAt m i ls)) (page b q)
-      aimed-stopped f = type-stopped s d call o (aimedAt m i ls) (wayTo m) i aimed-entry (aimedRule c m ls) aimed-body b way-is room f
-
-      pub aimed-open : {q : Pen} {n : ℕ} {x : TypeData} {j : Page} → r ≡ typeOpening.Open q n x
-          → Wrote (page b q) (ruled c t (holding call (take n l)) (aimedRule c m ls (typeContents s x))) j → Wrote (page b p) (walked c t h (aimedAt m i ls)) j
-      aimed-open f v = type-open s d call o (aimedAt m i ls) (wayTo m) i aimed-entry (aimedRule c m ls) aimed-body b way-is room f v
-
-  -- Any other modifier's target.
-  module _ (i : ℕ) (n : Bool) {p : Pen} {list l : List ℕ} {r : TypeOpening} (b : List ℕ) (z : OpensType s (call .types) p list o way.Modified i l r) (room : length list ≡ 96) where
-    modified-entry : entryOf c t (modified i n) ≡ opens (key 4 i)
-    unfolding entryOf
-    modified-entry = refl
-
-    modified-body : body c t (modified i n) ≡ inside (t .types i) (modifiedText c n)
-    unfolding body
-    modified-body = refl
-
-    pub modified-stopped : {q : Pen} → r ≡ typeOpening.Stopped q → Wrote (page b p) (walked c t h (modified i n)) (page b q)
-    modified-stopped f = type-stopped s d call o (modified i n) way.Modified i modified-entry (modifiedText c n) modified-body b z room f
-
-    pub modified-open : {q : Pen} {k : ℕ} {x : TypeData} {j : Page} → r ≡ typeOpening.Open q k x
-        → Wrote (page b q) (ruled c t (holding call (take k l)) (modifiedText c n (typeContents s x))) j → Wrote (page b p) (walked c t h (modified i n)) j
-    modified-open f v = type-open s d call o (modified i n) way.Modified i modified-entry (modifiedText c n) modified-body b z room f v
 
   -- A method's arguments.
   module _ (m : Method) (closes : Bool) where
@@ -403,23 +336,6 @@ module _ (s d : List ℕ) (call : Call) (o : List ℕ) where
     args-shown : (b : Bool) → b ≡ c .noArguments → b ≡ false → walked c t h (listOf m closes) ≡ ruled c t h (methodArguments c m closes)
     unfolding ruled exec methodArguments
     args-shown b e f = let k : c .noArguments ≡ false = cc in rw k
-
-    list-entry : entryOf c t (listOf m closes) ≡ opens (key 5 (m .list))
-    unfolding entryOf
-    list-entry = refl
-
-    list-body : body c t (listOf m closes) ≡ inside (t .types (m .list)) (methodList c t m closes)
-    unfolding body
-    list-body = refl
-
-    module _ (w : Bool) (e : w ≡ c .noArguments) (g : w ≡ false) {p : Pen} {list l : List ℕ} {r : TypeOpening} (b : List ℕ)
-        (z : OpensType s (call .types) p list o way.List (m .list) l r) (room : length list ≡ 96) where
-      pub args-stopped : {q : Pen} → r ≡ typeOpening.Stopped q → Wrote (page b p) (ruled c t h (methodArguments c m closes)) (page b q)
-      args-stopped f = wrote-by (type-stopped s d call o (listOf m closes) way.List (m .list) list-entry (methodList c t m closes) list-body b z room f) (args-shown w e g)
-
-      pub args-open : {q : Pen} {n : ℕ} {x : TypeData} {j : Page} → r ≡ typeOpening.Open q n x
-          → Wrote (page b q) (ruled c t (holding call (take n l)) (methodList c t m closes (typeContents s x))) j → Wrote (page b p) (ruled c t h (methodArguments c m closes)) j
-      args-open f v = wrote-by (type-open s d call o (listOf m closes) way.List (m .list) list-entry (methodList c t m closes) list-body b z room f v) (args-shown w e g)
 
     pub list-wrong : (x : TypeData) → OneOf noList (tagOf the-type x)
         → tr [] (refused (ArgumentTypeNotArgumentList (m .list))) [] (count 0 0) ≡ ruled c t h (methodList c t m closes (typeContents s x))
@@ -577,6 +493,98 @@ module _ (s d : List ℕ) (call : Call) (o : List ℕ) where
       pub array-base : (v : ℕ) → z ≡ sized.Bytes v → later (prefix [] [] (count 0 (y .taken)) (ruled c t h text ⨾ writing (brackets v (sizesOf (r .sizes))))) ≡ walked c t h (element e (size ∷ []))
       unfolding ruled exec sizeTrace valueOf _⨾_
       array-base v g = rw g at sized-is
+
+-- What opens an index in the list that is lent, where those from `left` on are open.
+module _ (s d : List ℕ) (call : Call) (list : List ℕ) (left : ℕ) where
+  abbrev c₁ : Settings
+  c₁ = settingsOf call
+
+  abbrev t₁ : Table
+  t₁ = tableIn s d call
+
+  -- An index by itself that was read.
+  module _ {r : TypeRead} {x : TypeData} {i : ℕ} (b : List ℕ) (e : r ≡ readType s (call .types) i) (g : r ≡ Good x) {p : Pen} {l : List ℕ} {y : Opening}
+      (z : Opens p list left way.Itself i l y) (room : length list ≡ 96) (low : left ≤ 96) where
+    self-entry : entryOf c₁ t₁ (byItself i) ≡ opens (key 1 i)
+    unfolding entryOf afterRead
+    self-entry = rw (read-good s d call (drop left list) i r x e g)
+
+    self-body : body c₁ t₁ (byItself i) ≡ texted (typeText c₁ (typeContents s x))
+    unfolding body alone
+    self-body = rw (read-good s d call (drop left list) i r x e g)
+
+    pub self-stopped : {q : Pen} → y ≡ opening.Stopped q → Writes left list l (page b p) (λ o. walked c₁ t₁ (holding call o) (byItself i)) (page b q)
+    self-stopped f = stopped-then s d call list left (byItself i) way.Itself i self-entry b z room low f
+
+    pub self-open : {q : Pen} {n : ℕ} {m : List ℕ} {j : Page} → y ≡ opening.Open q n
+        → Writes n l m (page b q) (λ o. ruled c₁ t₁ (holding call o) (texted (typeText c₁ (typeContents s x)))) j → Writes left list m (page b p) (λ o. walked c₁ t₁ (holding call o) (byItself i)) j
+    self-open f v = opened-then s d call list left (byItself i) way.Itself i self-entry b (texted (typeText c₁ (typeContents s x))) (open-in z room low f) self-body v
+
+  -- A pointer's target, and that of a pointer's modifier.
+  module _ (m : Bool) (i : ℕ) (ls : List Level) where
+    aimed-entry : entryOf c₁ t₁ (aimedAt m i ls) ≡ opens (key (wayOf (wayTo m)) i)
+    unfolding entryOf
+    aimed-entry = by m
+      where
+        by : (m : Bool) → entryOf c₁ t₁ (aimedAt m i ls) ≡ opens (key (wayOf (wayTo m)) i)
+        by true = refl
+        by false = refl
+
+    aimed-body : body c₁ t₁ (aimedAt m i ls) ≡ inside (t₁ .types i) (aimedRule c₁ m ls)
+    unfolding body
+    aimed-body = by m
+      where
+        by : (m : Bool) → body c₁ t₁ (aimedAt m i ls) ≡ inside (t₁ .types i) (aimedRule c₁ m ls)
+        by true = refl
+        by false = refl
+
+    module _ {w : Way} {p : Pen} {l : List ℕ} {r : TypeOpening} (b : List ℕ) (u : w ≡ wayTo m) (z : OpensType s (call .types) p list left w i l r) (room : length list ≡ 96) (low : left ≤ 96) where
+      way-is : OpensType s (call .types) p list left (wayTo m) i l r
+      way-is = rw u at z
+
+      pub aimed-stopped : {q : Pen} → r ≡ typeOpening.Stopped q → Writes left list l (page b p) (λ o. walked c₁ t₁ (holding call o) (aimedAt m i ls)) (page b q)
+      aimed-stopped f = type-stopped s d call list left (aimedAt m i ls) (wayTo m) i aimed-entry (aimedRule c₁ m ls) aimed-body b way-is room low f
+
+      pub aimed-open : {q : Pen} {n : ℕ} {x : TypeData} {k : List ℕ} {j : Page} → r ≡ typeOpening.Open q n x
+          → Writes n l k (page b q) (λ o. ruled c₁ t₁ (holding call o) (aimedRule c₁ m ls (typeContents s x))) j → Writes left list k (page b p) (λ o. walked c₁ t₁ (holding call o) (aimedAt m i ls)) j
+      aimed-open f v = type-open s d call list left (aimedAt m i ls) (wayTo m) i aimed-entry (aimedRule c₁ m ls) aimed-body b way-is room low f v
+
+  -- Any other modifier's target.
+  module _ (i : ℕ) (n : Bool) {p : Pen} {l : List ℕ} {r : TypeOpening} (b : List ℕ) (z : OpensType s (call .types) p list left way.Modified i l r) (room : length list ≡ 96)
+      (low : left ≤ 96) where
+    modified-entry : entryOf c₁ t₁ (modified i n) ≡ opens (key 4 i)
+    unfolding entryOf
+    modified-entry = refl
+
+    modified-body : body c₁ t₁ (modified i n) ≡ inside (t₁ .types i) (modifiedText c₁ n)
+    unfolding body
+    modified-body = refl
+
+    pub modified-stopped : {q : Pen} → r ≡ typeOpening.Stopped q → Writes left list l (page b p) (λ o. walked c₁ t₁ (holding call o) (modified i n)) (page b q)
+    modified-stopped f = type-stopped s d call list left (modified i n) way.Modified i modified-entry (modifiedText c₁ n) modified-body b z room low f
+
+    pub modified-open : {q : Pen} {k : ℕ} {x : TypeData} {m : List ℕ} {j : Page} → r ≡ typeOpening.Open q k x
+        → Writes k l m (page b q) (λ o. ruled c₁ t₁ (holding call o) (modifiedText c₁ n (typeContents s x))) j → Writes left list m (page b p) (λ o. walked c₁ t₁ (holding call o) (modified i n)) j
+    modified-open f v = type-open s d call list left (modified i n) way.Modified i modified-entry (modifiedText c₁ n) modified-body b z room low f v
+
+  -- A method's arguments.
+  module _ (m : Method) (closes : Bool) where
+    list-entry : entryOf c₁ t₁ (listOf m closes) ≡ opens (key 5 (m .list))
+    unfolding entryOf
+    list-entry = refl
+
+    list-body : body c₁ t₁ (listOf m closes) ≡ inside (t₁ .types (m .list)) (methodList c₁ t₁ m closes)
+    unfolding body
+    list-body = refl
+
+    module _ (w : Bool) (e : w ≡ c₁ .noArguments) (g : w ≡ false) {p : Pen} {l : List ℕ} {r : TypeOpening} (b : List ℕ)
+        (z : OpensType s (call .types) p list left way.List (m .list) l r) (room : length list ≡ 96) (low : left ≤ 96) where
+      pub args-stopped : {q : Pen} → r ≡ typeOpening.Stopped q → Writes left list l (page b p) (λ o. ruled c₁ t₁ (holding call o) (methodArguments c₁ m closes)) (page b q)
+      args-stopped f = writes-by (type-stopped s d call list left (listOf m closes) way.List (m .list) list-entry (methodList c₁ t₁ m closes) list-body b z room low f) (args-shown s d call (drop left list) m closes w e g)
+
+      pub args-open : {q : Pen} {n : ℕ} {x : TypeData} {k : List ℕ} {j : Page} → r ≡ typeOpening.Open q n x
+          → Writes n l k (page b q) (λ o. ruled c₁ t₁ (holding call o) (methodList c₁ t₁ m closes (typeContents s x))) j → Writes left list k (page b p) (λ o. ruled c₁ t₁ (holding call o) (methodArguments c₁ m closes)) j
+      args-open f v = writes-by (type-open s d call list left (listOf m closes) way.List (m .list) list-entry (methodList c₁ t₁ m closes) list-body b z room low f v) (args-shown s d call (drop left list) m closes w e g)
 
 -- What an array counts in the measure.
 pub arrayed-low : (x : TypeData) → arrayed x ≤ 1

@@ -1,7 +1,8 @@
 // The text of a type index. The writers of types, pointers, methods and arguments call each other, and end because each index that is opened is one of at
-// most 96. A writer that is given a stopped pen returns at once.
+// most 96. They are lent one list for these: what is open lies from `left` on, and each writes only below. A writer that is given a stopped pen returns at
+// once.
 ghost use mathlib.Core.Path.{_≡_};
-ghost use Prim.Native.Nat.{_+_, _-_, _≤_, _<_};
+ghost use Prim.Native.Nat.{_-_, _≤_, _<_};
 ghost use lib.ListN.{length};
 ghost use mathlib.Core.Bool.{false};
 ghost use mathlib.Core.List.{[], _∷_};
@@ -10,8 +11,9 @@ ghost use Rattle.rules.specs.Record.{method, procedure, arguments, typeContents
 ghost use Rattle.rules.specs.Task.{byItself, modified, element, texted};
 ghost use Rattle.rules.specs.Types.{typeText, result, methodArguments, argumentEntries};
 ghost use Rattle.rules.specs.Pointers.{pointed};
-ghost use Rattle.pen.specs.Page.{page, Wrote};
+ghost use Rattle.pen.specs.Page.{page};
 ghost use Rattle.context.specs.Context.{settingsOf, levelsOf};
+ghost use Rattle.context.specs.Opening.{Writes};
 ghost use Rattle.emit.specs.Walking.{walking, ruling, methodOf, entriesAt, listRule, plainPointed, aimedAt, wayTo};
 use codeview::index::TypeIndex;
 use codeview::record::ArrayType;
@@ -64,16 +66,18 @@ pub fn emit_return_type(
     out: &mut [u8],
     p: Pen,
     call: Call,
-    seen: &[u64],
+    seen: &mut [u64],
+    left: usize,
     none: bool,
     index: TypeIndex,
 ) -> Pen
-    ensures { λ r. ⌜ Wrote (page (now (out .entry)) p) (ruling (now (types .entry)) (now (ids .entry)) call (now (seen .entry)) (result (settingsOf call) none (index .0))) (page (now (out .exit)) r) ⌝ }
+    requires { ⌜ (length (now seen) ≡ 96) × (left ≤ 96) ⌝ }
+    ensures { λ r. ⌜ Writes left (now (seen .entry)) (now (seen .exit)) (page (now (out .entry)) p) (λ o. ruling (now (types .entry)) (now (ids .entry)) call o (result (settingsOf call) none (index .0))) (page (now (out .exit)) r) ⌝ }
 {
     if none {
         return p;
     }
-    let a = emit_type_index(types, ids, out, p, call, seen, index);
+    let a = emit_type_index(types, ids, out, p, call, seen, left, index);
     pen::text(out, a, b" ")
 }
 
@@ -84,24 +88,25 @@ pub fn emit_method_args(
     out: &mut [u8],
     p: Pen,
     call: Call,
-    seen: &[u64],
+    seen: &mut [u64],
+    left: usize,
     m: MemberFunctionType,
     closes: bool,
 ) -> Pen
-    ensures { λ r. ⌜ Wrote (page (now (out .entry)) p) (ruling (now (types .entry)) (now (ids .entry)) call (now (seen .entry)) (methodArguments (settingsOf call) (methodOf m) closes)) (page (now (out .exit)) r) ⌝ }
+    requires { ⌜ (length (now seen) ≡ 96) × (left ≤ 96) ⌝ }
+    ensures { λ r. ⌜ Writes left (now (seen .entry)) (now (seen .exit)) (page (now (out .entry)) p) (λ o. ruling (now (types .entry)) (now (ids .entry)) call o (methodArguments (settingsOf call) (methodOf m) closes)) (page (now (out .exit)) r) ⌝ }
 {
     if no_arguments(call) {
         return p;
     }
     let index = m.arguments;
     let stream = call.types;
-    let mut list = [0u64; 96];
-    match open_type(types, stream, p, &mut list, seen, Way::List, index) {
+    match open_type(types, stream, p, seen, left, Way::List, index) {
         TypeOpening::Open(q, n, t) => {
             let TypeData::ArgumentList(e) = t else {
                 return pen::refuse(out, q, Refusal::ArgumentTypeNotArgumentList(index.0));
             };
-            args(types, ids, out, q, call, &list[..n], m, e, closes)
+            args(types, ids, out, q, call, seen, n, m, e, closes)
         }
         TypeOpening::Stopped(q) => q,
     }
@@ -114,12 +119,14 @@ fn args(
     out: &mut [u8],
     p: Pen,
     call: Call,
-    seen: &[u64],
+    seen: &mut [u64],
+    left: usize,
     m: MemberFunctionType,
     e: Entries,
     closes: bool,
 ) -> Pen
-    ensures { λ r. ⌜ Wrote (page (now (out .entry)) p) (ruling (now (types .entry)) (now (ids .entry)) call (now (seen .entry)) (listRule (now (types .entry)) (now (ids .entry)) call m closes e)) (page (now (out .exit)) r) ⌝ }
+    requires { ⌜ (length (now seen) ≡ 96) × (left ≤ 96) ⌝ }
+    ensures { λ r. ⌜ Writes left (now (seen .entry)) (now (seen .exit)) (page (now (out .entry)) p) (λ o. ruling (now (types .entry)) (now (ids .entry)) call o (listRule (now (types .entry)) (now (ids .entry)) call m closes e)) (page (now (out .exit)) r) ⌝ }
 {
     let stream = call.types;
     let this = m.this;
@@ -128,14 +135,14 @@ fn args(
         ThisRead::Given(constant) => {
             let shut = both(closes, constant);
             let a = pen::text(out, p, b"(");
-            let b = emit_arg_list(types, ids, out, a, call, seen, false, e);
+            let b = emit_arg_list(types, ids, out, a, call, seen, left, false, e);
             let c = pen::text(out, b, b")");
             text_if(out, c, shut, b" const")
         }
         ThisRead::Other => {
             let a = pen::text(out, p, b"(");
-            let b = emit_type_index(types, ids, out, a, call, seen, this);
-            let c = emit_arg_list(types, ids, out, b, call, seen, true, e);
+            let b = emit_type_index(types, ids, out, a, call, seen, left, this);
+            let c = emit_arg_list(types, ids, out, b, call, seen, left, true, e);
             pen::text(out, c, b")")
         }
         ThisRead::Refused(f) => pen::unread(out, p, f),
@@ -149,20 +156,22 @@ fn emit_member_ptr(
     out: &mut [u8],
     p: Pen,
     call: Call,
-    seen: &[u64],
+    seen: &mut [u64],
+    left: usize,
     levels: Levels,
     m: MemberFunctionType,
 ) -> Pen
-    ensures { λ r. ⌜ Wrote (page (now (out .entry)) p) (ruling (now (types .entry)) (now (ids .entry)) call (now (seen .entry)) (pointed (settingsOf call) (levelsOf levels) (method (methodOf m)))) (page (now (out .exit)) r) ⌝ }
+    requires { ⌜ (length (now seen) ≡ 96) × (left ≤ 96) ⌝ }
+    ensures { λ r. ⌜ Writes left (now (seen .entry)) (now (seen .exit)) (page (now (out .entry)) p) (λ o. ruling (now (types .entry)) (now (ids .entry)) call o (pointed (settingsOf call) (levelsOf levels) (method (methodOf m)))) (page (now (out .exit)) r) ⌝ }
 {
     let result = m.result;
     let class = m.class;
-    let a = emit_return_type(types, ids, out, p, call, seen, m.constructor, result);
+    let a = emit_return_type(types, ids, out, p, call, seen, left, m.constructor, result);
     let b = pen::text(out, a, b"(");
-    let c = emit_type_index(types, ids, out, b, call, seen, class);
+    let c = emit_type_index(types, ids, out, b, call, seen, left, class);
     let d = emit_attributes(out, c, call, levels, false, false);
     let e = pen::text(out, d, b")");
-    emit_method_args(types, ids, out, e, call, seen, m, false)
+    emit_method_args(types, ids, out, e, call, seen, left, m, false)
 }
 
 // A pointer to a procedure.
@@ -172,21 +181,23 @@ fn emit_proc_ptr(
     out: &mut [u8],
     p: Pen,
     call: Call,
-    seen: &[u64],
+    seen: &mut [u64],
+    left: usize,
     levels: Levels,
     x: ProcedureType,
 ) -> Pen
-    ensures { λ r. ⌜ Wrote (page (now (out .entry)) p) (ruling (now (types .entry)) (now (ids .entry)) call (now (seen .entry)) (pointed (settingsOf call) (levelsOf levels) (procedure (x .result .0) (x .constructor) (x .arguments .0)))) (page (now (out .exit)) r) ⌝ }
+    requires { ⌜ (length (now seen) ≡ 96) × (left ≤ 96) ⌝ }
+    ensures { λ r. ⌜ Writes left (now (seen .entry)) (now (seen .exit)) (page (now (out .entry)) p) (λ o. ruling (now (types .entry)) (now (ids .entry)) call o (pointed (settingsOf call) (levelsOf levels) (procedure (x .result .0) (x .constructor) (x .arguments .0)))) (page (now (out .exit)) r) ⌝ }
 {
     let result = x.result;
     let list = x.arguments;
     let none = is_void(x.constructor, result);
-    let a = emit_return_type(types, ids, out, p, call, seen, none, result);
+    let a = emit_return_type(types, ids, out, p, call, seen, left, none, result);
     let b = pen::text(out, a, b"(");
     let c = emit_attributes(out, b, call, levels, false, false);
     let d = pen::text(out, c, b")");
     let e = pen::text(out, d, b"(");
-    let f = emit_type_index(types, ids, out, e, call, seen, list);
+    let f = emit_type_index(types, ids, out, e, call, seen, left, list);
     pen::text(out, f, b")")
 }
 
@@ -197,15 +208,16 @@ fn emit_other_ptr(
     out: &mut [u8],
     p: Pen,
     call: Call,
-    seen: &[u64],
+    seen: &mut [u64],
+    left: usize,
     levels: Levels,
     t: TypeData,
 ) -> Pen
-    requires { ⌜ 1 ≤ length (now seen) ⌝ }
-    ensures { λ r. ⌜ Wrote (page (now (out .entry)) p) (ruling (now (types .entry)) (now (ids .entry)) call (now (seen .entry)) (plainPointed (settingsOf call) (levelsOf levels) (typeContents (now (types .entry)) t))) (page (now (out .exit)) r) ⌝ }
+    requires { ⌜ (length (now seen) ≡ 96) × (left < 96) ⌝ }
+    ensures { λ r. ⌜ Writes left (now (seen .entry)) (now (seen .exit)) (page (now (out .entry)) p) (λ o. ruling (now (types .entry)) (now (ids .entry)) call o (plainPointed (settingsOf call) (levelsOf levels) (typeContents (now (types .entry)) t))) (page (now (out .exit)) r) ⌝ }
 {
     let start = p.at;
-    let q = emit_type(types, ids, out, p, call, seen, t);
+    let q = emit_type(types, ids, out, p, call, seen, left, t);
     emit_attributes_since(out, q, call, levels, start)
 }
 
@@ -216,17 +228,28 @@ fn emit_ptr_helper(
     out: &mut [u8],
     p: Pen,
     call: Call,
-    seen: &[u64],
+    seen: &mut [u64],
+    left: usize,
     levels: Levels,
     t: TypeData,
 ) -> Pen
-    requires { ⌜ 1 ≤ length (now seen) ⌝ }
-    ensures { λ r. ⌜ Wrote (page (now (out .entry)) p) (ruling (now (types .entry)) (now (ids .entry)) call (now (seen .entry)) (pointed (settingsOf call) (levelsOf levels) (typeContents (now (types .entry)) t))) (page (now (out .exit)) r) ⌝ }
+    requires { ⌜ (length (now seen) ≡ 96) × (left < 96) ⌝ }
+    ensures { λ r. ⌜ Writes left (now (seen .entry)) (now (seen .exit)) (page (now (out .entry)) p) (λ o. ruling (now (types .entry)) (now (ids .entry)) call o (pointed (settingsOf call) (levelsOf levels) (typeContents (now (types .entry)) t))) (page (now (out .exit)) r) ⌝ }
 {
     match t {
-        TypeData::MemberFunction(m) => emit_member_ptr(types, ids, out, p, call, seen, levels, m),
-        TypeData::Procedure(x) => emit_proc_ptr(types, ids, out, p, call, seen, levels, x),
-        _ => emit_other_ptr(types, ids, out, p, call, seen, levels, t),
+        TypeData::MemberFunction(m) => emit_member_ptr(
+            types,
+            ids,
+            out,
+            p,
+            call,
+            seen,
+            left,
+            levels,
+            m,
+        ),
+        TypeData::Procedure(x) => emit_proc_ptr(types, ids, out, p, call, seen, left, levels, x),
+        _ => emit_other_ptr(types, ids, out, p, call, seen, left, levels, t),
     }
 }
 
@@ -237,34 +260,34 @@ fn emit_ptr(
     out: &mut [u8],
     p: Pen,
     call: Call,
-    seen: &[u64],
+    seen: &mut [u64],
+    left: usize,
     levels: Levels,
     modified: bool,
     index: TypeIndex,
 ) -> Pen
-    requires { ⌜ (96 ≤ levels .left + length (now seen)) × (levels .left ≤ 96) ⌝ }
-    ensures { λ r. ⌜ Wrote (page (now (out .entry)) p) (walking (now (types .entry)) (now (ids .entry)) call (now (seen .entry)) (aimedAt modified (index .0) (levelsOf levels))) (page (now (out .exit)) r) ⌝ }
+    requires { ⌜ (length (now seen) ≡ 96) × (left ≤ levels .left) × (levels .left ≤ 96) ⌝ }
+    ensures { λ r. ⌜ Writes left (now (seen .entry)) (now (seen .exit)) (page (now (out .entry)) p) (λ o. walking (now (types .entry)) (now (ids .entry)) call o (aimedAt modified (index .0) (levelsOf levels))) (page (now (out .exit)) r) ⌝ }
 {
     let stream = call.types;
     let way = way_to(modified);
-    let mut list = [0u64; 96];
-    match open_type(types, stream, p, &mut list, seen, way, index) {
+    match open_type(types, stream, p, seen, left, way, index) {
         TypeOpening::Open(q, n, t) => match t {
             TypeData::Pointer(x) => {
                 let mode = x.mode;
                 let under = x.underlying;
                 let further = aim(levels, x.constant, mode);
-                emit_ptr(types, ids, out, q, call, &list[..n], further, false, under)
+                emit_ptr(types, ids, out, q, call, seen, n, further, false, under)
             }
             TypeData::Modifier(m) => {
                 if modified {
-                    return emit_ptr_helper(types, ids, out, q, call, &list[..n], levels, t);
+                    return emit_ptr_helper(types, ids, out, q, call, seen, n, levels, t);
                 }
                 let under = m.underlying;
                 let over = over_pointee(levels, m.constant);
-                emit_ptr(types, ids, out, q, call, &list[..n], over, true, under)
+                emit_ptr(types, ids, out, q, call, seen, n, over, true, under)
             }
-            _ => emit_ptr_helper(types, ids, out, q, call, &list[..n], levels, t),
+            _ => emit_ptr_helper(types, ids, out, q, call, seen, n, levels, t),
         },
         TypeOpening::Stopped(q) => q,
     }
@@ -277,11 +300,12 @@ fn emit_array(
     out: &mut [u8],
     p: Pen,
     call: Call,
-    seen: &[u64],
+    seen: &mut [u64],
+    left: usize,
     x: ArrayType,
 ) -> Pen
-    requires { ⌜ 1 ≤ length (now seen) ⌝ }
-    ensures { λ r. ⌜ Wrote (page (now (out .entry)) p) (walking (now (types .entry)) (now (ids .entry)) call (now (seen .entry)) (element (x .element .0) (x .size ∷ []))) (page (now (out .exit)) r) ⌝ }
+    requires { ⌜ (length (now seen) ≡ 96) × (left < 96) ⌝ }
+    ensures { λ r. ⌜ Writes left (now (seen .entry)) (now (seen .exit)) (page (now (out .entry)) p) (λ o. walking (now (types .entry)) (now (ids .entry)) call o (element (x .element .0) (x .size ∷ []))) (page (now (out .exit)) r) ⌝ }
 {
     let under = x.element;
     let info = get_array_info(types, call, under, x.size);
@@ -292,7 +316,7 @@ fn emit_array(
         ArrayEnd::Base(t) => {
             match get_type_size(types, call, last, 0) {
                 SizeRead::Bytes(size) => {
-                    let q = base(types, ids, out, p, call, seen, t);
+                    let q = base(types, ids, out, p, call, seen, left, t);
                     emit_brackets(out, q, sizes, size)
                 }
                 SizeRead::TooLong(index) => pen::too_long(out, p, index),
@@ -311,11 +335,12 @@ fn base(
     out: &mut [u8],
     p: Pen,
     call: Call,
-    seen: &[u64],
+    seen: &mut [u64],
+    left: usize,
     t: TypeData,
 ) -> Pen
-    requires { ⌜ 1 ≤ length (now seen) ⌝ }
-    ensures { λ r. ⌜ Wrote (page (now (out .entry)) p) (ruling (now (types .entry)) (now (ids .entry)) call (now (seen .entry)) (texted (typeText (settingsOf call) (typeContents (now (types .entry)) t)))) (page (now (out .exit)) r) ⌝ }
+    requires { ⌜ (length (now seen) ≡ 96) × (left < 96) ⌝ }
+    ensures { λ r. ⌜ Writes left (now (seen .entry)) (now (seen .exit)) (page (now (out .entry)) p) (λ o. ruling (now (types .entry)) (now (ids .entry)) call o (texted (typeText (settingsOf call) (typeContents (now (types .entry)) t)))) (page (now (out .exit)) r) ⌝ }
 {
     if pen::is_idle(p) {
         return p;
@@ -325,15 +350,15 @@ fn base(
             let mode = x.mode;
             let under = x.underlying;
             let first = aim(no_levels(), x.constant, mode);
-            let q = emit_ptr(types, ids, out, p, call, seen, first, false, under);
+            let q = emit_ptr(types, ids, out, p, call, seen, left, first, false, under);
             mark_missing(out, q)
         }
         TypeData::Modifier(m) => {
             let under = m.underlying;
-            let q = emit_modifier(types, ids, out, p, call, seen, m.constant, under);
+            let q = emit_modifier(types, ids, out, p, call, seen, left, m.constant, under);
             mark_missing(out, q)
         }
-        _ => emit_type(types, ids, out, p, call, seen, t),
+        _ => emit_type(types, ids, out, p, call, seen, left, t),
     }
 }
 
@@ -344,26 +369,27 @@ fn emit_modifier(
     out: &mut [u8],
     p: Pen,
     call: Call,
-    seen: &[u64],
+    seen: &mut [u64],
+    left: usize,
     constant: bool,
     index: TypeIndex,
 ) -> Pen
-    ensures { λ r. ⌜ Wrote (page (now (out .entry)) p) (walking (now (types .entry)) (now (ids .entry)) call (now (seen .entry)) (modified (index .0) constant)) (page (now (out .exit)) r) ⌝ }
+    requires { ⌜ (length (now seen) ≡ 96) × (left ≤ 96) ⌝ }
+    ensures { λ r. ⌜ Writes left (now (seen .entry)) (now (seen .exit)) (page (now (out .entry)) p) (λ o. walking (now (types .entry)) (now (ids .entry)) call o (modified (index .0) constant)) (page (now (out .exit)) r) ⌝ }
 {
     let stream = call.types;
-    let mut list = [0u64; 96];
-    match open_type(types, stream, p, &mut list, seen, Way::Modified, index) {
+    match open_type(types, stream, p, seen, left, Way::Modified, index) {
         TypeOpening::Open(q, n, t) => match t {
             TypeData::Pointer(x) => {
                 let mode = x.mode;
                 let under = x.underlying;
                 let first = aim(no_levels(), either(x.constant, constant), mode);
-                emit_ptr(types, ids, out, q, call, &list[..n], first, false, under)
+                emit_ptr(types, ids, out, q, call, seen, n, first, false, under)
             }
             TypeData::Primitive(x) => emit_primitive(out, q, call, constant, x.code, x.indirection),
             _ => {
                 let a = text_if(out, q, constant, b"const ");
-                emit_type(types, ids, out, a, call, &list[..n], t)
+                emit_type(types, ids, out, a, call, seen, n, t)
             }
         },
         TypeOpening::Stopped(q) => q,
@@ -377,11 +403,13 @@ fn emit_arg_list(
     out: &mut [u8],
     p: Pen,
     call: Call,
-    seen: &[u64],
+    seen: &mut [u64],
+    left: usize,
     led: bool,
     e: Entries,
 ) -> Pen
-    ensures { λ r. ⌜ Wrote (page (now (out .entry)) p) (ruling (now (types .entry)) (now (ids .entry)) call (now (seen .entry)) (argumentEntries (settingsOf call) led (entriesAt (now (types .entry)) e))) (page (now (out .exit)) r) ⌝ }
+    requires { ⌜ (length (now seen) ≡ 96) × (left ≤ 96) ⌝ }
+    ensures { λ r. ⌜ Writes left (now (seen .entry)) (now (seen .exit)) (page (now (out .entry)) p) (λ o. ruling (now (types .entry)) (now (ids .entry)) call o (argumentEntries (settingsOf call) led (entriesAt (now (types .entry)) e))) (page (now (out .exit)) r) ⌝ }
 {
     let mut q = p;
     let mut between = led;
@@ -392,7 +420,7 @@ fn emit_arg_list(
         }
         let c = emit_comma(out, q, call, between);
         let index = TypeIndex(entry_at(types, e, i));
-        q = emit_type_index(types, ids, out, c, call, seen, index);
+        q = emit_type_index(types, ids, out, c, call, seen, left, index);
         between = true;
         i += 1;
     }
@@ -406,10 +434,12 @@ pub fn emit_type_index(
     out: &mut [u8],
     p: Pen,
     call: Call,
-    seen: &[u64],
+    seen: &mut [u64],
+    left: usize,
     index: TypeIndex,
 ) -> Pen
-    ensures { λ r. ⌜ Wrote (page (now (out .entry)) p) (walking (now (types .entry)) (now (ids .entry)) call (now (seen .entry)) (byItself (index .0))) (page (now (out .exit)) r) ⌝ }
+    requires { ⌜ (length (now seen) ≡ 96) × (left ≤ 96) ⌝ }
+    ensures { λ r. ⌜ Writes left (now (seen .entry)) (now (seen .exit)) (page (now (out .entry)) p) (λ o. walking (now (types .entry)) (now (ids .entry)) call o (byItself (index .0))) (page (now (out .exit)) r) ⌝ }
 {
     if pen::is_idle(p) {
         return p;
@@ -417,9 +447,8 @@ pub fn emit_type_index(
     let stream = call.types;
     match type_at(types, stream, index) {
         TypeRead::Good(t) => {
-            let mut list = [0u64; 96];
-            match open_index(p, &mut list, seen, Way::Itself, index) {
-                Opening::Open(q, n) => emit_type(types, ids, out, q, call, &list[..n], t),
+            match open_index(p, seen, left, Way::Itself, index) {
+                Opening::Open(q, n) => emit_type(types, ids, out, q, call, seen, n, t),
                 Opening::Stopped(q) => q,
             }
         }
@@ -434,16 +463,17 @@ fn emit_type(
     out: &mut [u8],
     p: Pen,
     call: Call,
-    seen: &[u64],
+    seen: &mut [u64],
+    left: usize,
     t: TypeData,
 ) -> Pen
-    requires { ⌜ 1 ≤ length (now seen) ⌝ }
-    ensures { λ r. ⌜ Wrote (page (now (out .entry)) p) (ruling (now (types .entry)) (now (ids .entry)) call (now (seen .entry)) (texted (typeText (settingsOf call) (typeContents (now (types .entry)) t)))) (page (now (out .exit)) r) ⌝ }
+    requires { ⌜ (length (now seen) ≡ 96) × (left < 96) ⌝ }
+    ensures { λ r. ⌜ Writes left (now (seen .entry)) (now (seen .exit)) (page (now (out .entry)) p) (λ o. ruling (now (types .entry)) (now (ids .entry)) call o (texted (typeText (settingsOf call) (typeContents (now (types .entry)) t)))) (page (now (out .exit)) r) ⌝ }
 {
     if pen::is_idle(p) {
         return p;
     }
-    let q = emit_type_inner(types, ids, out, p, call, seen, t);
+    let q = emit_type_inner(types, ids, out, p, call, seen, left, t);
     mark_missing(out, q)
 }
 
@@ -454,39 +484,40 @@ fn emit_type_inner(
     out: &mut [u8],
     p: Pen,
     call: Call,
-    seen: &[u64],
+    seen: &mut [u64],
+    left: usize,
     t: TypeData,
 ) -> Pen
-    requires { ⌜ 1 ≤ length (now seen) ⌝ }
-    ensures { λ r. ⌜ Wrote (page (now (out .entry)) p) (ruling (now (types .entry)) (now (ids .entry)) call (now (seen .entry)) (typeText (settingsOf call) (typeContents (now (types .entry)) t))) (page (now (out .exit)) r) ⌝ }
+    requires { ⌜ (length (now seen) ≡ 96) × (left < 96) ⌝ }
+    ensures { λ r. ⌜ Writes left (now (seen .entry)) (now (seen .exit)) (page (now (out .entry)) p) (λ o. ruling (now (types .entry)) (now (ids .entry)) call o (typeText (settingsOf call) (typeContents (now (types .entry)) t))) (page (now (out .exit)) r) ⌝ }
 {
     match t {
         TypeData::Primitive(x) => emit_primitive(out, p, call, false, x.code, x.indirection),
         TypeData::Modifier(m) => {
             let under = m.underlying;
-            emit_modifier(types, ids, out, p, call, seen, m.constant, under)
+            emit_modifier(types, ids, out, p, call, seen, left, m.constant, under)
         }
         TypeData::Pointer(x) => {
             let mode = x.mode;
             let under = x.underlying;
             let first = aim(no_levels(), x.constant, mode);
-            emit_ptr(types, ids, out, p, call, seen, first, false, under)
+            emit_ptr(types, ids, out, p, call, seen, left, first, false, under)
         }
         TypeData::Procedure(x) => {
             let list = x.arguments;
             let none = hides_return(call, is_void(x.constructor, x.result));
-            let a = emit_return_type(types, ids, out, p, call, seen, none, x.result);
+            let a = emit_return_type(types, ids, out, p, call, seen, left, none, x.result);
             let b = pen::text(out, a, b"()(");
-            emit_type_index(types, ids, out, b, call, seen, list)
+            emit_type_index(types, ids, out, b, call, seen, left, list)
         }
         TypeData::MemberFunction(m) => {
             let none = hides_return(call, m.constructor);
-            let a = emit_return_type(types, ids, out, p, call, seen, none, m.result);
+            let a = emit_return_type(types, ids, out, p, call, seen, left, none, m.result);
             let b = pen::text(out, a, b"()");
-            emit_method_args(types, ids, out, b, call, seen, m, false)
+            emit_method_args(types, ids, out, b, call, seen, left, m, false)
         }
-        TypeData::ArgumentList(e) => emit_arg_list(types, ids, out, p, call, seen, false, e),
-        TypeData::Array(x) => emit_array(types, ids, out, p, call, seen, x),
+        TypeData::ArgumentList(e) => emit_arg_list(types, ids, out, p, call, seen, left, false, e),
+        TypeData::Array(x) => emit_array(types, ids, out, p, call, seen, left, x),
         _ => emit_record(types, out, p, call, t),
     }
 }

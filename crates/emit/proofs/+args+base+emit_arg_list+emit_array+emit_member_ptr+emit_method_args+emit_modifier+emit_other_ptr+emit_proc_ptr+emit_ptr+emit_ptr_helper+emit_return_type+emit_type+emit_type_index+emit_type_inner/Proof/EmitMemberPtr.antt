@@ -1,8 +1,10 @@
 -- `emit-member-ptr` meets its contract, below the measure t. Its needs are in the order of the code.
 use Prim.Native.Nat.{ℕ}
 use borrow.Author.Needs.{needs}
-use Rattle.pen.proofs.Laws.{_▸_, wrote-by, wrote-length}
+use native.Mathlib.Omega.{arith}
+use mathlib.Core.Path.{_∙_}
 use Rattle.emit.specs.Walking.{methodOf}
+use Rattle.context.proofs.Opening.{plain, _▸▸_, writes-by, writes-length}
 use Rattle.emit.proofs.Laws.{member-ptr-is}
 use Rattle.emit.proofs.emit_member_ptr.Reads as emit-member-ptr
 use Rattle.emit.proofs.emit_method_args.Reads as emit-method-args
@@ -17,34 +19,37 @@ abbrev claims : ℕ → lts.Claims
 claims t = (emit-return-type-below t, emit-return-type.Post, text-reads.Asked, text-reads.Learnt, emit-type-index-below t, emit-type-index.Post, emit-attributes-reads.Asked, emit-attributes-reads.Learnt, emit-method-args-below t, emit-method-args.Post)
 
 emit-return-type-requires : (t : ℕ) → lts.Need-emit-return-type-requires (claims t) (emit-member-ptr-at t) emit-member-ptr.Post
-emit-return-type-requires t c κs = search (c .before .before .before .before .before .before .before .pre, needs)
+emit-return-type-requires t c κs = search (c .before .before .before .before .before .before .before .before .fits, c .before .before .before .before .before .before .before .before .pre, needs)
 
 slice-aggregate-text : (t : ℕ) → lts.Need-slice-aggregate-text (claims t) (emit-member-ptr-at t) emit-member-ptr.Post
 slice-aggregate-text t c = search needs
 
 text-requires : (t : ℕ) → lts.Need-text-requires (claims t) (emit-member-ptr-at t) emit-member-ptr.Post
-text-requires t c κs = search (c .before .before .before .before .before .before .before .before .before .before .before .before .pre, needs)
+text-requires t c κs = search (c .before .before .before .before .before .before .before .before .before .before .before .before .before .before .before .fits, c .before .before .before .before .before .before .before .before .before .before .before .before .before .before .before .pre, needs)
 
 emit-type-index-requires : (t : ℕ) → lts.Need-emit-type-index-requires (claims t) (emit-member-ptr-at t) emit-member-ptr.Post
-emit-type-index-requires t c κs = search (c .before .before .before .before .before .before .before .before .before .before .before .before .before .before .before .before .pre, needs)
+emit-type-index-requires t c κs = search (c .before .before .before .before .before .before .before .before .before .before .before .before .before .before .before .before .before .before .before .before .fits, c .before .before .before .before .before .before .before .before .before .before .before .before .before .before .before .before .before .before .before .before .pre, needs)
 
 emit-attributes-requires : (t : ℕ) → lts.Need-emit-attributes-requires (claims t) (emit-member-ptr-at t) emit-member-ptr.Post
-emit-attributes-requires t c κs = search (c .before .before .before .before .before .before .before .before .before .before .before .before .before .before .before .before .before .before .before .before .pre, needs)
+emit-attributes-requires t c κs = search (c .before .before .before .before .before .before .before .before .before .before .before .before .before .before .before .before .before .before .before .before .before .before .before .before .before .before .fits, c .before .before .before .before .before .before .before .before .before .before .before .before .before .before .before .before .before .before .before .before .before .before .before .before .before .before .pre, needs)
 
 slice-aggregate-text-2 : (t : ℕ) → lts.Need-slice-aggregate-text-2 (claims t) (emit-member-ptr-at t) emit-member-ptr.Post
 slice-aggregate-text-2 t c = search needs
 
 text-requires-2 : (t : ℕ) → lts.Need-text-requires-2 (claims t) (emit-member-ptr-at t) emit-member-ptr.Post
-text-requires-2 t c κs = search (c .before .before .before .before .before .before .before .before .before .before .before .before .before .before .before .before .before .before .before .before .before .before .before .before .before .pre, needs)
+text-requires-2 t c κs = search (c .before .before .before .before .before .before .before .before .before .before .before .before .before .before .before .before .before .before .before .before .before .before .before .before .before .before .before .before .before .before .before .fits, c .before .before .before .before .before .before .before .before .before .before .before .before .before .before .before .before .before .before .before .before .before .before .before .before .before .before .before .before .before .before .before .pre, needs)
 
 emit-method-args-requires : (t : ℕ) → lts.Need-emit-method-args-requires (claims t) (emit-member-ptr-at t) emit-member-ptr.Post
-emit-method-args-requires t c κs = search (c .before .before .before .before .before .before .before .before .before .before .before .before .before .before .before .before .before .before .before .before .before .before .before .before .before .before .before .before .before .pre, needs)
+emit-method-args-requires t c κs = (omega (arith, c .before .before .before .before .before .before .before .before .before .before .before .before .before .before .before .before .before .before .before .before .before .before .before .before .before .before .before .before .before .before .before .before .before .before .before .before .pre), (c .before .before .before .before .before .before .before .before .before .before .before .before .seen2 .given ∙ c .before .before .before .before .before .before .before .before .before .before .before .before .before .before .before .before .before .before .before .before .before .before .before .before .seen .given ∙ c .before .before .before .before .before .before .before .before .before .before .before .before .before .before .before .before .before .before .before .before .before .before .before .before .before .before .before .before .before .before .before .before .before .before .before .before .pre .1 .0, c .before .before .before .before .before .before .before .before .before .before .before .before .before .before .before .before .before .before .before .before .before .before .before .before .before .before .before .before .before .before .before .before .before .before .before .before .pre .1 .1))
 
 returns : (t : ℕ) → lts.Need-returns (claims t) (emit-member-ptr-at t) emit-member-ptr.Post
-returns t c = wrote-by (c .before .before .before .before .before .before .before .before .before .before .before .before .before .before .before .before .before .before .before .before .before .before .before .before .emit-return-type .ensures ▸ c .before .before .before .before .before .before .before .before .before .before .before .before .before .before .before .before .before .before .before .text .ensures ▸ c .before .before .before .before .before .before .before .before .before .before .before .before .before .before .before .emit-type-index .ensures ▸ c .before .before .before .before .before .before .before .before .before .before .before .emit-attributes .ensures ▸ c .before .before .before .before .before .before .text2 .ensures ▸ c .before .before .emit-method-args .ensures) (member-ptr-is _ _ _ _ (methodOf (c .before .before .before .before .before .before .before .before .before .before .before .before .before .before .before .before .before .before .before .before .before .before .before .before .before .before .before .before .before .before .before .before .args .m)))
+returns t c = writes-by (c .before .before .before .before .before .before .before .before .before .before .before .before .before .before .before .before .before .before .before .before .before .before .before .before .before .before .before .before .before .before .before .before .emit-return-type .ensures ▸▸ plain (c .before .before .before .before .before .before .before .before .before .before .before .before .before .before .before .before .before .before .before .before .before .before .before .before .before .text .ensures) ▸▸ c .before .before .before .before .before .before .before .before .before .before .before .before .before .before .before .before .before .before .before .before .emit-type-index .ensures ▸▸ plain (c .before .before .before .before .before .before .before .before .before .before .before .before .before .before .emit-attributes .ensures) ▸▸ plain (c .before .before .before .before .before .before .before .before .before .text2 .ensures) ▸▸ c .before .before .before .before .emit-method-args .ensures) (member-ptr-is _ _ _ _ (methodOf (c .before .before .before .before .before .before .before .before .before .before .before .before .before .before .before .before .before .before .before .before .before .before .before .before .before .before .before .before .before .before .before .before .before .before .before .before .before .before .before .before .before .args .m)))
 
 same-length : (t : ℕ) → lts.Need-same-length (claims t) (emit-member-ptr-at t) emit-member-ptr.Post
-same-length t c = wrote-length (returns t c)
+same-length t c = writes-length (returns t c)
+
+same-length-2 : (t : ℕ) → lts.Need-same-length-2 (claims t) (emit-member-ptr-at t) emit-member-ptr.Post
+same-length-2 t c = c .before .seen3 .given ∙ c .before .before .before .before .before .before .before .before .before .before .before .before .before .before .before .before .before .seen2 .given ∙ c .before .before .before .before .before .before .before .before .before .before .before .before .before .before .before .before .before .before .before .before .before .before .before .before .before .before .before .before .before .seen .given
 
 pub closed : {M : Type 1} (t : ℕ) → lts.Closed (claims t) (emit-member-ptr-at t) emit-member-ptr.Post M
-closed t = lts.spec (claims t) (emit-member-ptr-at t) emit-member-ptr.Post (emit-return-type-requires t) (slice-aggregate-text t) (text-requires t) (emit-type-index-requires t) (emit-attributes-requires t) (slice-aggregate-text-2 t) (text-requires-2 t) (emit-method-args-requires t) (same-length t) (returns t)
+closed t = lts.spec (claims t) (emit-member-ptr-at t) emit-member-ptr.Post (emit-return-type-requires t) (slice-aggregate-text t) (text-requires t) (emit-type-index-requires t) (emit-attributes-requires t) (slice-aggregate-text-2 t) (text-requires-2 t) (emit-method-args-requires t) (same-length t) (same-length-2 t) (returns t)

@@ -2,11 +2,11 @@
 use Prim.Native.Nat.{ℕ}
 use borrow.Author.Needs.{needs}
 use native.Mathlib.Omega.{arith}
-use Rattle.pen.proofs.Laws.{wrote-by, wrote-length}
+use mathlib.Core.Path.{_∙_}
 use Rattle.emit.specs.Walking.{methodOf}
-use Rattle.context.proofs.Opening.{in-length, type-in}
+use Rattle.context.proofs.Opening.{type-in, plain, unlent, writes-by, writes-length}
 use Rattle.emit.proofs.Laws.{args-stopped, args-open, list-wrong, list-right}
-use Rattle.emit.proofs.Laws.{walks, in-lent, in-fits}
+use Rattle.emit.proofs.Laws.{walks}
 use Rattle.emit.proofs.args.Reads as args
 use Rattle.emit.proofs.emit_method_args.Reads as emit-method-args
 use Rattle.context.proofs.seen.open_type.Reads as open-type-reads
@@ -19,16 +19,13 @@ abbrev claims : ℕ → lts.Claims
 claims t = (no-arguments-reads.Asked, no-arguments-reads.Learnt, open-type-reads.Asked, open-type-reads.Learnt, refuse-reads.Asked, refuse-reads.Learnt, args-below t, args.Post)
 
 no-arguments-requires : (t : ℕ) → lts.Need-no-arguments-requires (claims t) (emit-method-args-at t) emit-method-args.Post
-no-arguments-requires t c κs = search (c .before .before .before .before .pre, needs)
+no-arguments-requires t c κs = search (c .before .before .before .before .fits, c .before .before .before .before .pre, needs)
 
 returns : (t : ℕ) → lts.Need-returns (claims t) (emit-method-args-at t) emit-method-args.Post
-returns t c = search (walks, needs)
-
-slice-aggregate-open-type : (t : ℕ) → lts.Need-slice-aggregate-open-type (claims t) (emit-method-args-at t) emit-method-args.Post
-slice-aggregate-open-type t c = search needs
+returns t c = unlent (search (walks, needs))
 
 open-type-requires : (t : ℕ) → lts.Need-open-type-requires (claims t) (emit-method-args-at t) emit-method-args.Post
-open-type-requires t c κs = search (c .before .before .before .if1, c .before .before .before .before .before .before .before .before .before .pre, c .before .before .before .before .no-arguments .ensures, needs)
+open-type-requires t c κs = search (c .before .before .before .if1, c .before .before .before .before .before .before .before .before .before .fits, c .before .before .before .before .before .before .before .before .before .pre, c .before .before .before .before .no-arguments .ensures, needs)
 
 enum-known-q : (t : ℕ) → lts.Need-enum-known-q (claims t) (emit-method-args-at t) emit-method-args.Post
 enum-known-q t c = search needs
@@ -37,34 +34,37 @@ enum-known-t : (t : ℕ) → lts.Need-enum-known-t (claims t) (emit-method-args-
 enum-known-t t c = search needs
 
 refuse-requires : (t : ℕ) → lts.Need-refuse-requires (claims t) (emit-method-args-at t) emit-method-args.Post
-refuse-requires t c κs = search (c .before .match2, c .before .before .before .before .match, c .before .before .before .before .before .before .before .before .before .before .if1, c .before .before .before .before .before .before .before .before .before .before .before .before .before .before .before .before .pre, c .before .before .before .before .before .before .open-type .ensures, c .before .before .before .before .before .before .before .before .before .before .before .no-arguments .ensures, needs)
+refuse-requires t c κs = search (c .before .match2, c .before .before .before .before .match, c .before .before .before .before .before .before .before .before .before .before .before .if1, c .before .before .before .before .before .before .before .before .before .before .before .before .before .before .before .before .before .fits, c .before .before .before .before .before .before .before .before .before .before .before .before .before .before .before .before .before .pre, c .before .before .before .before .before .before .before .open-type .ensures, c .before .before .before .before .before .before .before .before .before .before .before .before .no-arguments .ensures, needs)
 
 returns-2 : (t : ℕ) → lts.Need-returns-2 (claims t) (emit-method-args-at t) emit-method-args.Post
-returns-2 t c = args-open _ _ _ _ (methodOf (c .before .before .before .before .before .before .before .before .before .before .before .before .before .before .before .before .before .args .m)) (c .before .before .before .before .before .before .before .before .before .before .before .before .before .before .before .before .before .args .closes) _ (c .before .before .before .before .before .before .before .before .before .before .before .before .no-arguments .ensures) (c .before .before .before .before .before .before .before .before .before .before .before .if1 .left) _ (c .before .before .before .before .before .before .before .open-type .ensures) (search needs) (c .before .before .before .before .q .given .1) (wrote-by (c .refuse .ensures) (list-wrong _ _ _ _ (methodOf (c .before .before .before .before .before .before .before .before .before .before .before .before .before .before .before .before .before .args .m)) (c .before .before .before .before .before .before .before .before .before .before .before .before .before .before .before .before .before .args .closes) _ (c .before .before .match2 .keys2)))
-
-array-share-prefix-list : (t : ℕ) → lts.Need-array-share-prefix-list (claims t) (emit-method-args-at t) emit-method-args.Post
-array-share-prefix-list t c = in-fits (type-in (c .before .before .before .before .before .before .before .before .open-type .ensures) (search needs) (c .before .before .before .before .before .q .given .1) .0)
-
-slice-aggregate-args : (t : ℕ) → lts.Need-slice-aggregate-args (claims t) (emit-method-args-at t) emit-method-args.Post
-slice-aggregate-args t c = in-lent (type-in (c .before .before .before .before .before .before .before .before .before .open-type .ensures) (search needs) (c .before .before .before .before .before .before .q .given .1) .0)
+returns-2 t c = args-open _ _ _ _ _ (methodOf (c .before .before .before .before .before .before .before .before .before .before .before .before .before .before .before .before .before .before .args .m)) (c .before .before .before .before .before .before .before .before .before .before .before .before .before .before .before .before .before .before .args .closes) _ (c .before .before .before .before .before .before .before .before .before .before .before .before .before .no-arguments .ensures) (c .before .before .before .before .before .before .before .before .before .before .before .before .if1 .left) _ (c .before .before .before .before .before .before .before .before .open-type .ensures) (c .before .before .before .before .before .before .before .before .before .before .before .before .before .before .before .before .before .before .pre .1 .0) (omega (arith, c .before .before .before .before .before .before .before .before .before .before .before .before .before .before .before .before .before .before .pre)) (c .before .before .before .before .q .given .1) (writes-by (plain (c .refuse .ensures)) (list-wrong _ _ _ _ (methodOf (c .before .before .before .before .before .before .before .before .before .before .before .before .before .before .before .before .before .before .args .m)) (c .before .before .before .before .before .before .before .before .before .before .before .before .before .before .before .before .before .before .args .closes) _ (c .before .before .match2 .keys2)))
 
 args-requires : (t : ℕ) → lts.Need-args-requires (claims t) (emit-method-args-at t) emit-method-args.Post
-args-requires t c κs = omega (arith, in-length (type-in (c .before .before .before .before .before .before .before .before .before .open-type .ensures) (search needs) (c .before .before .before .before .before .before .q .given .1) .0), type-in (c .before .before .before .before .before .before .before .before .before .open-type .ensures) (search needs) (c .before .before .before .before .before .before .q .given .1) .0 .few, c .before .before .before .before .before .before .before .before .before .before .before .before .before .before .before .before .before .before .before .pre)
+args-requires t c κs = (omega (arith, type-in (c .before .before .before .before .before .before .before .before .before .before .open-type .ensures) (c .before .before .before .before .before .before .before .before .before .before .before .before .before .before .before .before .before .before .before .before .pre .1 .0) (omega (arith, c .before .before .before .before .before .before .before .before .before .before .before .before .before .before .before .before .before .before .before .before .pre)) (c .before .before .before .before .before .before .q .given .1) .0 .next, c .before .before .before .before .before .before .before .before .before .before .before .before .before .before .before .before .before .before .before .before .pre), (type-in (c .before .before .before .before .before .before .before .before .before .before .open-type .ensures) (c .before .before .before .before .before .before .before .before .before .before .before .before .before .before .before .before .before .before .before .before .pre .1 .0) (omega (arith, c .before .before .before .before .before .before .before .before .before .before .before .before .before .before .before .before .before .before .before .before .pre)) (c .before .before .before .before .before .before .q .given .1) .0 .all, omega (arith, type-in (c .before .before .before .before .before .before .before .before .before .before .open-type .ensures) (c .before .before .before .before .before .before .before .before .before .before .before .before .before .before .before .before .before .before .before .before .pre .1 .0) (omega (arith, c .before .before .before .before .before .before .before .before .before .before .before .before .before .before .before .before .before .before .before .before .pre)) (c .before .before .before .before .before .before .q .given .1) .0 .next, c .before .before .before .before .before .before .before .before .before .before .before .before .before .before .before .before .before .before .before .before .pre)))
 
 enum-known-q-2 : (t : ℕ) → lts.Need-enum-known-q-2 (claims t) (emit-method-args-at t) emit-method-args.Post
 enum-known-q-2 t c = search needs
 
 returns-3 : (t : ℕ) → lts.Need-returns-3 (claims t) (emit-method-args-at t) emit-method-args.Post
-returns-3 t c = args-open _ _ _ _ (methodOf (c .before .before .before .before .before .before .before .before .before .before .before .before .before .before .before .before .before .before .before .before .before .before .args .m)) (c .before .before .before .before .before .before .before .before .before .before .before .before .before .before .before .before .before .before .before .before .before .before .args .closes) _ (c .before .before .before .before .before .before .before .before .before .before .before .before .before .before .before .before .before .no-arguments .ensures) (c .before .before .before .before .before .before .before .before .before .before .before .before .before .before .before .before .if1 .left) _ (c .before .before .before .before .before .before .before .before .before .before .before .before .open-type .ensures) (search needs) (c .before .before .before .before .before .before .before .before .before .q .given .1) (wrote-by (c .before .before .args2 .ensures) (list-right _ _ _ _ (methodOf (c .before .before .before .before .before .before .before .before .before .before .before .before .before .before .before .before .before .before .before .before .before .before .args .m)) (c .before .before .before .before .before .before .before .before .before .before .before .before .before .before .before .before .before .before .before .before .before .before .args .closes) _ _ (c .before .before .before .before .before .before .t .given .1)))
+returns-3 t c = args-open _ _ _ _ _ (methodOf (c .before .before .before .before .before .before .before .before .before .before .before .before .before .before .before .before .before .before .before .before .before .before .before .before .before .args .m)) (c .before .before .before .before .before .before .before .before .before .before .before .before .before .before .before .before .before .before .before .before .before .before .before .before .before .args .closes) _ (c .before .before .before .before .before .before .before .before .before .before .before .before .before .before .before .before .before .before .before .before .no-arguments .ensures) (c .before .before .before .before .before .before .before .before .before .before .before .before .before .before .before .before .before .before .before .if1 .left) _ (c .before .before .before .before .before .before .before .before .before .before .before .before .before .before .before .open-type .ensures) (c .before .before .before .before .before .before .before .before .before .before .before .before .before .before .before .before .before .before .before .before .before .before .before .before .before .pre .1 .0) (omega (arith, c .before .before .before .before .before .before .before .before .before .before .before .before .before .before .before .before .before .before .before .before .before .before .before .before .before .pre)) (c .before .before .before .before .before .before .before .before .before .before .before .q .given .1) (writes-by (c .before .before .before .before .args2 .ensures) (list-right _ _ _ _ (methodOf (c .before .before .before .before .before .before .before .before .before .before .before .before .before .before .before .before .before .before .before .before .before .before .before .before .before .args .m)) (c .before .before .before .before .before .before .before .before .before .before .before .before .before .before .before .before .before .before .before .before .before .before .before .before .before .args .closes) _ _ (c .before .before .before .before .before .before .before .before .t .given .1)))
 
 returns-4 : (t : ℕ) → lts.Need-returns-4 (claims t) (emit-method-args-at t) emit-method-args.Post
-returns-4 t c = args-stopped _ _ _ _ (methodOf (c .before .before .before .before .before .before .before .before .before .before .before .before .before .before .args .m)) (c .before .before .before .before .before .before .before .before .before .before .before .before .before .before .args .closes) _ (c .before .before .before .before .before .before .before .before .before .no-arguments .ensures) (c .before .before .before .before .before .before .before .before .if1 .left) _ (c .before .before .before .before .open-type .ensures) (search needs) (c .before .q2 .given .1)
+returns-4 t c = args-stopped _ _ _ _ _ (methodOf (c .before .before .before .before .before .before .before .before .before .before .before .before .before .before .before .args .m)) (c .before .before .before .before .before .before .before .before .before .before .before .before .before .before .before .args .closes) _ (c .before .before .before .before .before .before .before .before .before .before .no-arguments .ensures) (c .before .before .before .before .before .before .before .before .before .if1 .left) _ (c .before .before .before .before .before .open-type .ensures) (c .before .before .before .before .before .before .before .before .before .before .before .before .before .before .before .pre .1 .0) (omega (arith, c .before .before .before .before .before .before .before .before .before .before .before .before .before .before .before .pre)) (c .before .q2 .given .1)
 
 same-length : (t : ℕ) → lts.Need-same-length (claims t) (emit-method-args-at t) emit-method-args.Post
-same-length t c = wrote-length (returns-2 t c)
+same-length t c = writes-length (returns-2 t c)
 
 same-length-2 : (t : ℕ) → lts.Need-same-length-2 (claims t) (emit-method-args-at t) emit-method-args.Post
-same-length-2 t c = wrote-length (returns-3 t c)
+same-length-2 t c = c .before .before .before .before .before .before .before .seen .given
+
+same-length-3 : (t : ℕ) → lts.Need-same-length-3 (claims t) (emit-method-args-at t) emit-method-args.Post
+same-length-3 t c = writes-length (returns-3 t c)
+
+same-length-4 : (t : ℕ) → lts.Need-same-length-4 (claims t) (emit-method-args-at t) emit-method-args.Post
+same-length-4 t c = c .before .seen2 .given ∙ c .before .before .before .before .before .before .before .before .before .before .before .before .before .before .seen .given
+
+same-length-5 : (t : ℕ) → lts.Need-same-length-5 (claims t) (emit-method-args-at t) emit-method-args.Post
+same-length-5 t c = c .before .before .before .before .seen .given
 
 pub closed : {M : Type 1} (t : ℕ) → lts.Closed (claims t) (emit-method-args-at t) emit-method-args.Post M
-closed t = lts.spec (claims t) (emit-method-args-at t) emit-method-args.Post (no-arguments-requires t) (returns t) (slice-aggregate-open-type t) (open-type-requires t) (enum-known-q t) (enum-known-t t) (refuse-requires t) (same-length t) (returns-2 t) (array-share-prefix-list t) (slice-aggregate-args t) (args-requires t) (enum-known-q-2 t) (same-length-2 t) (returns-3 t) (returns-4 t)
+closed t = lts.spec (claims t) (emit-method-args-at t) emit-method-args.Post (no-arguments-requires t) (returns t) (open-type-requires t) (enum-known-q t) (enum-known-t t) (refuse-requires t) (same-length t) (same-length-2 t) (returns-2 t) (args-requires t) (enum-known-q-2 t) (same-length-3 t) (same-length-4 t) (returns-3 t) (same-length-5 t) (returns-4 t)

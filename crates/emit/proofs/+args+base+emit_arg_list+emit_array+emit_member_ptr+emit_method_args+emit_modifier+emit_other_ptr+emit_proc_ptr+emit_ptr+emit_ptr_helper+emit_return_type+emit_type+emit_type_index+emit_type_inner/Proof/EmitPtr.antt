@@ -2,10 +2,9 @@
 use Prim.Native.Nat.{ℕ}
 use borrow.Author.Needs.{needs}
 use native.Mathlib.Omega.{arith}
-use Rattle.pen.proofs.Laws.{wrote-by, wrote-length}
-use Rattle.context.proofs.Opening.{in-length, type-in}
+use mathlib.Core.Path.{_∙_}
+use Rattle.context.proofs.Opening.{type-in, writes-by, writes-length}
 use Rattle.emit.proofs.Laws.{aimed-stopped, aimed-open, aimed-pointer, aimed-modifier, aimed-twice, aimed-plain}
-use Rattle.emit.proofs.Laws.{in-lent, in-fits}
 use Rattle.emit.proofs.emit_ptr.Reads as emit-ptr
 use Rattle.emit.proofs.emit_ptr_helper.Reads as emit-ptr-helper
 use Rattle.context.proofs.seen.open_type.Reads as open-type-reads
@@ -19,13 +18,10 @@ abbrev claims : ℕ → lts.Claims
 claims t = (way-to-reads.Asked, way-to-reads.Learnt, open-type-reads.Asked, open-type-reads.Learnt, aim-reads.Asked, aim-reads.Learnt, emit-ptr-below t, emit-ptr.Post, emit-ptr-helper-below t, emit-ptr-helper.Post, over-pointee-reads.Asked, over-pointee-reads.Learnt)
 
 way-to-requires : (t : ℕ) → lts.Need-way-to-requires (claims t) (emit-ptr-at t) emit-ptr.Post
-way-to-requires t c κs = search (c .before .before .before .before .before .pre, needs)
-
-slice-aggregate-open-type : (t : ℕ) → lts.Need-slice-aggregate-open-type (claims t) (emit-ptr-at t) emit-ptr.Post
-slice-aggregate-open-type t c = search needs
+way-to-requires t c κs = search (c .before .before .before .before .before .fits, c .before .before .before .before .before .pre, needs)
 
 open-type-requires : (t : ℕ) → lts.Need-open-type-requires (claims t) (emit-ptr-at t) emit-ptr.Post
-open-type-requires t c κs = search (c .before .before .before .before .before .before .before .pre, needs)
+open-type-requires t c κs = search (c .before .before .before .before .before .before .before .fits, c .before .before .before .before .before .before .before .pre, needs)
 
 enum-known-q : (t : ℕ) → lts.Need-enum-known-q (claims t) (emit-ptr-at t) emit-ptr.Post
 enum-known-q t c = search needs
@@ -34,79 +30,70 @@ enum-known-t : (t : ℕ) → lts.Need-enum-known-t (claims t) (emit-ptr-at t) em
 enum-known-t t c = search needs
 
 aim-requires : (t : ℕ) → lts.Need-aim-requires (claims t) (emit-ptr-at t) emit-ptr.Post
-aim-requires t c κs = (omega (arith, type-in (c .before .before .before .before .before .before .before .before .open-type .ensures) (search needs) (c .before .before .before .before .before .q .given .1) .0 .few, c .before .before .before .before .before .before .before .before .before .before .before .before .before .before .before .before .pre), omega (arith, c .before .before .before .before .before .before .before .before .before .before .before .before .before .before .before .before .pre))
-
-array-share-prefix-list : (t : ℕ) → lts.Need-array-share-prefix-list (claims t) (emit-ptr-at t) emit-ptr.Post
-array-share-prefix-list t c = in-fits (type-in (c .before .before .before .before .before .before .before .before .before .before .open-type .ensures) (search needs) (c .before .before .before .before .before .before .before .q .given .1) .0)
-
-slice-aggregate-emit-ptr : (t : ℕ) → lts.Need-slice-aggregate-emit-ptr (claims t) (emit-ptr-at t) emit-ptr.Post
-slice-aggregate-emit-ptr t c = in-lent (type-in (c .before .before .before .before .before .before .before .before .before .before .before .open-type .ensures) (search needs) (c .before .before .before .before .before .before .before .before .q .given .1) .0)
+aim-requires t c κs = (omega (arith, type-in (c .before .before .before .before .before .before .before .before .before .open-type .ensures) (c .before .before .before .before .before .before .before .before .before .before .before .before .before .before .before .before .before .pre .1 .0) (omega (arith, c .before .before .before .before .before .before .before .before .before .before .before .before .before .before .before .before .before .pre)) (c .before .before .before .before .before .q .given .1) .0 .next, c .before .before .before .before .before .before .before .before .before .before .before .before .before .before .before .before .before .pre), omega (arith, c .before .before .before .before .before .before .before .before .before .before .before .before .before .before .before .before .before .pre))
 
 emit-ptr-requires : (t : ℕ) → lts.Need-emit-ptr-requires (claims t) (emit-ptr-at t) emit-ptr.Post
-emit-ptr-requires t c κs = (omega (arith, in-length (type-in (c .before .before .before .before .before .before .before .before .before .before .before .open-type .ensures) (search needs) (c .before .before .before .before .before .before .before .before .q .given .1) .0), type-in (c .before .before .before .before .before .before .before .before .before .before .before .open-type .ensures) (search needs) (c .before .before .before .before .before .before .before .before .q .given .1) .0 .few, c .before .before .before .before .before .before .before .before .before .before .before .before .before .before .before .before .before .before .before .pre), (omega (arith, in-length (type-in (c .before .before .before .before .before .before .before .before .before .before .before .open-type .ensures) (search needs) (c .before .before .before .before .before .before .before .before .q .given .1) .0), type-in (c .before .before .before .before .before .before .before .before .before .before .before .open-type .ensures) (search needs) (c .before .before .before .before .before .before .before .before .q .given .1) .0 .few, c .before .before .aim .ensures .0, c .before .before .before .before .before .before .before .before .before .before .before .before .before .before .before .before .before .before .before .pre), omega (arith, c .before .before .aim .ensures .0, c .before .before .before .before .before .before .before .before .before .before .before .before .before .before .before .before .before .before .before .pre)))
+emit-ptr-requires t c κs = (omega (arith, type-in (c .before .before .before .before .before .before .before .before .before .before .before .before .open-type .ensures) (c .before .before .before .before .before .before .before .before .before .before .before .before .before .before .before .before .before .before .before .before .pre .1 .0) (omega (arith, c .before .before .before .before .before .before .before .before .before .before .before .before .before .before .before .before .before .before .before .before .pre)) (c .before .before .before .before .before .before .before .before .q .given .1) .0 .next, c .before .before .before .before .before .before .before .before .before .before .before .before .before .before .before .before .before .before .before .before .pre), (type-in (c .before .before .before .before .before .before .before .before .before .before .before .before .open-type .ensures) (c .before .before .before .before .before .before .before .before .before .before .before .before .before .before .before .before .before .before .before .before .pre .1 .0) (omega (arith, c .before .before .before .before .before .before .before .before .before .before .before .before .before .before .before .before .before .before .before .before .pre)) (c .before .before .before .before .before .before .before .before .q .given .1) .0 .all, omega (arith, type-in (c .before .before .before .before .before .before .before .before .before .before .before .before .open-type .ensures) (c .before .before .before .before .before .before .before .before .before .before .before .before .before .before .before .before .before .before .before .before .pre .1 .0) (omega (arith, c .before .before .before .before .before .before .before .before .before .before .before .before .before .before .before .before .before .before .before .before .pre)) (c .before .before .before .before .before .before .before .before .q .given .1) .0 .next, c .before .before .aim .ensures .0, c .before .before .before .before .before .before .before .before .before .before .before .before .before .before .before .before .before .before .before .before .pre), omega (arith, c .before .before .aim .ensures .0, c .before .before .before .before .before .before .before .before .before .before .before .before .before .before .before .before .before .before .before .before .pre)))
 
 enum-known-t-2 : (t : ℕ) → lts.Need-enum-known-t-2 (claims t) (emit-ptr-at t) emit-ptr.Post
 enum-known-t-2 t c = search needs
 
-array-share-prefix-list-2 : (t : ℕ) → lts.Need-array-share-prefix-list-2 (claims t) (emit-ptr-at t) emit-ptr.Post
-array-share-prefix-list-2 t c = in-fits (type-in (c .before .before .before .before .before .before .before .before .before .open-type .ensures) (search needs) (c .before .before .before .before .before .before .q .given .1) .0)
-
-slice-aggregate-emit-ptr-helper : (t : ℕ) → lts.Need-slice-aggregate-emit-ptr-helper (claims t) (emit-ptr-at t) emit-ptr.Post
-slice-aggregate-emit-ptr-helper t c = in-lent (type-in (c .before .before .before .before .before .before .before .before .before .before .open-type .ensures) (search needs) (c .before .before .before .before .before .before .before .q .given .1) .0)
-
 emit-ptr-helper-requires : (t : ℕ) → lts.Need-emit-ptr-helper-requires (claims t) (emit-ptr-at t) emit-ptr.Post
-emit-ptr-helper-requires t c κs = (omega (arith, in-length (type-in (c .before .before .before .before .before .before .before .before .before .before .open-type .ensures) (search needs) (c .before .before .before .before .before .before .before .q .given .1) .0), type-in (c .before .before .before .before .before .before .before .before .before .before .open-type .ensures) (search needs) (c .before .before .before .before .before .before .before .q .given .1) .0 .few, c .before .before .before .before .before .before .before .before .before .before .before .before .before .before .before .before .before .before .pre), omega (arith, in-length (type-in (c .before .before .before .before .before .before .before .before .before .before .open-type .ensures) (search needs) (c .before .before .before .before .before .before .before .q .given .1) .0)))
+emit-ptr-helper-requires t c κs = (omega (arith, type-in (c .before .before .before .before .before .before .before .before .before .before .before .open-type .ensures) (c .before .before .before .before .before .before .before .before .before .before .before .before .before .before .before .before .before .before .before .pre .1 .0) (omega (arith, c .before .before .before .before .before .before .before .before .before .before .before .before .before .before .before .before .before .before .before .pre)) (c .before .before .before .before .before .before .before .q .given .1) .0 .next, c .before .before .before .before .before .before .before .before .before .before .before .before .before .before .before .before .before .before .before .pre), (type-in (c .before .before .before .before .before .before .before .before .before .before .before .open-type .ensures) (c .before .before .before .before .before .before .before .before .before .before .before .before .before .before .before .before .before .before .before .pre .1 .0) (omega (arith, c .before .before .before .before .before .before .before .before .before .before .before .before .before .before .before .before .before .before .before .pre)) (c .before .before .before .before .before .before .before .q .given .1) .0 .all, omega (arith, type-in (c .before .before .before .before .before .before .before .before .before .before .before .open-type .ensures) (c .before .before .before .before .before .before .before .before .before .before .before .before .before .before .before .before .before .before .before .pre .1 .0) (omega (arith, c .before .before .before .before .before .before .before .before .before .before .before .before .before .before .before .before .before .before .before .pre)) (c .before .before .before .before .before .before .before .q .given .1) .0 .next, c .before .before .before .before .before .before .before .before .before .before .before .before .before .before .before .before .before .before .before .pre)))
 
 returns : (t : ℕ) → lts.Need-returns (claims t) (emit-ptr-at t) emit-ptr.Post
-returns t c = aimed-open _ _ _ _ (c .before .before .before .before .before .before .before .before .before .before .before .before .before .before .before .before .before .before .before .before .before .args .modified) _ _ _ (c .before .before .before .before .before .before .before .before .before .before .before .before .before .before .before .way-to .ensures) (c .before .before .before .before .before .before .before .before .before .before .before .before .before .open-type .ensures) (search needs) (c .before .before .before .before .before .before .before .before .before .before .q .given .1) (wrote-by (c .before .before .emit-ptr-helper .ensures) (aimed-twice _ _ _ _ _ _ (c .before .before .before .before .before .before .before .before .before .before .before .before .before .before .before .before .before .before .before .before .before .args .modified) _ (c .before .before .before .before .before .if1 .taken) (c .before .before .before .before .before .before .before .t2 .given .1)))
+returns t c = aimed-open _ _ _ _ _ (c .before .before .before .before .before .before .before .before .before .before .before .before .before .before .before .before .before .before .before .before .before .before .before .before .args .modified) _ _ _ (c .before .before .before .before .before .before .before .before .before .before .before .before .before .before .before .before .before .before .way-to .ensures) (c .before .before .before .before .before .before .before .before .before .before .before .before .before .before .before .before .open-type .ensures) (c .before .before .before .before .before .before .before .before .before .before .before .before .before .before .before .before .before .before .before .before .before .before .before .before .pre .1 .0) (omega (arith, c .before .before .before .before .before .before .before .before .before .before .before .before .before .before .before .before .before .before .before .before .before .before .before .before .pre)) (c .before .before .before .before .before .before .before .before .before .before .before .before .q .given .1) (writes-by (c .before .before .before .before .emit-ptr-helper .ensures) (aimed-twice _ _ _ _ _ _ (c .before .before .before .before .before .before .before .before .before .before .before .before .before .before .before .before .before .before .before .before .before .before .before .before .args .modified) _ (c .before .before .before .before .before .before .before .if1 .taken) (c .before .before .before .before .before .before .before .before .before .t2 .given .1)))
 
 over-pointee-requires : (t : ℕ) → lts.Need-over-pointee-requires (claims t) (emit-ptr-at t) emit-ptr.Post
-over-pointee-requires t c κs = search (c .before .if1, c .before .before .before .before .match2, c .before .before .before .before .before .before .before .match, c .before .before .before .before .before .before .before .before .before .before .before .before .before .before .before .before .before .pre, c .before .before .before .before .before .before .before .before .before .open-type .ensures, needs)
-
-array-share-prefix-list-3 : (t : ℕ) → lts.Need-array-share-prefix-list-3 (claims t) (emit-ptr-at t) emit-ptr.Post
-array-share-prefix-list-3 t c = in-fits (type-in (c .before .before .before .before .before .before .before .before .before .before .before .open-type .ensures) (search needs) (c .before .before .before .before .before .before .before .before .q .given .1) .0)
-
-slice-aggregate-emit-ptr-2 : (t : ℕ) → lts.Need-slice-aggregate-emit-ptr-2 (claims t) (emit-ptr-at t) emit-ptr.Post
-slice-aggregate-emit-ptr-2 t c = in-lent (type-in (c .before .before .before .before .before .before .before .before .before .before .before .before .open-type .ensures) (search needs) (c .before .before .before .before .before .before .before .before .before .q .given .1) .0)
+over-pointee-requires t c κs = search (c .before .if1, c .before .before .before .before .match2, c .before .before .before .before .before .before .before .match, c .before .before .before .before .before .before .before .before .before .before .before .before .before .before .before .before .before .before .fits, c .before .before .before .before .before .before .before .before .before .before .before .before .before .before .before .before .before .before .pre, c .before .before .before .before .before .before .before .before .before .before .open-type .ensures, needs)
 
 emit-ptr-requires-2 : (t : ℕ) → lts.Need-emit-ptr-requires-2 (claims t) (emit-ptr-at t) emit-ptr.Post
-emit-ptr-requires-2 t c κs = (omega (arith, in-length (type-in (c .before .before .before .before .before .before .before .before .before .before .before .before .open-type .ensures) (search needs) (c .before .before .before .before .before .before .before .before .before .q .given .1) .0), type-in (c .before .before .before .before .before .before .before .before .before .before .before .before .open-type .ensures) (search needs) (c .before .before .before .before .before .before .before .before .before .q .given .1) .0 .few, c .before .before .before .before .before .before .before .before .before .before .before .before .before .before .before .before .before .before .before .before .pre), (omega (arith, in-length (type-in (c .before .before .before .before .before .before .before .before .before .before .before .before .open-type .ensures) (search needs) (c .before .before .before .before .before .before .before .before .before .q .given .1) .0), type-in (c .before .before .before .before .before .before .before .before .before .before .before .before .open-type .ensures) (search needs) (c .before .before .before .before .before .before .before .before .before .q .given .1) .0 .few, c .before .before .over-pointee .ensures .left, c .before .before .before .before .before .before .before .before .before .before .before .before .before .before .before .before .before .before .before .before .pre), omega (arith, c .before .before .over-pointee .ensures .left, c .before .before .before .before .before .before .before .before .before .before .before .before .before .before .before .before .before .before .before .before .pre)))
-
-array-share-prefix-list-4 : (t : ℕ) → lts.Need-array-share-prefix-list-4 (claims t) (emit-ptr-at t) emit-ptr.Post
-array-share-prefix-list-4 t c = in-fits (type-in (c .before .before .before .before .before .before .open-type .ensures) (search needs) (c .before .before .before .q .given .1) .0)
-
-slice-aggregate-emit-ptr-helper-2 : (t : ℕ) → lts.Need-slice-aggregate-emit-ptr-helper-2 (claims t) (emit-ptr-at t) emit-ptr.Post
-slice-aggregate-emit-ptr-helper-2 t c = in-lent (type-in (c .before .before .before .before .before .before .before .open-type .ensures) (search needs) (c .before .before .before .before .q .given .1) .0)
+emit-ptr-requires-2 t c κs = (omega (arith, type-in (c .before .before .before .before .before .before .before .before .before .before .before .before .before .open-type .ensures) (c .before .before .before .before .before .before .before .before .before .before .before .before .before .before .before .before .before .before .before .before .before .pre .1 .0) (omega (arith, c .before .before .before .before .before .before .before .before .before .before .before .before .before .before .before .before .before .before .before .before .before .pre)) (c .before .before .before .before .before .before .before .before .before .q .given .1) .0 .next, c .before .before .before .before .before .before .before .before .before .before .before .before .before .before .before .before .before .before .before .before .before .pre), (type-in (c .before .before .before .before .before .before .before .before .before .before .before .before .before .open-type .ensures) (c .before .before .before .before .before .before .before .before .before .before .before .before .before .before .before .before .before .before .before .before .before .pre .1 .0) (omega (arith, c .before .before .before .before .before .before .before .before .before .before .before .before .before .before .before .before .before .before .before .before .before .pre)) (c .before .before .before .before .before .before .before .before .before .q .given .1) .0 .all, omega (arith, type-in (c .before .before .before .before .before .before .before .before .before .before .before .before .before .open-type .ensures) (c .before .before .before .before .before .before .before .before .before .before .before .before .before .before .before .before .before .before .before .before .before .pre .1 .0) (omega (arith, c .before .before .before .before .before .before .before .before .before .before .before .before .before .before .before .before .before .before .before .before .before .pre)) (c .before .before .before .before .before .before .before .before .before .q .given .1) .0 .next, c .before .before .over-pointee .ensures .left, c .before .before .before .before .before .before .before .before .before .before .before .before .before .before .before .before .before .before .before .before .before .pre), omega (arith, c .before .before .over-pointee .ensures .left, c .before .before .before .before .before .before .before .before .before .before .before .before .before .before .before .before .before .before .before .before .before .pre)))
 
 emit-ptr-helper-requires-2 : (t : ℕ) → lts.Need-emit-ptr-helper-requires-2 (claims t) (emit-ptr-at t) emit-ptr.Post
-emit-ptr-helper-requires-2 t c κs = (omega (arith, in-length (type-in (c .before .before .before .before .before .before .before .open-type .ensures) (search needs) (c .before .before .before .before .q .given .1) .0), type-in (c .before .before .before .before .before .before .before .open-type .ensures) (search needs) (c .before .before .before .before .q .given .1) .0 .few, c .before .before .before .before .before .before .before .before .before .before .before .before .before .before .before .pre), omega (arith, in-length (type-in (c .before .before .before .before .before .before .before .open-type .ensures) (search needs) (c .before .before .before .before .q .given .1) .0)))
+emit-ptr-helper-requires-2 t c κs = (omega (arith, type-in (c .before .before .before .before .before .before .before .before .open-type .ensures) (c .before .before .before .before .before .before .before .before .before .before .before .before .before .before .before .before .pre .1 .0) (omega (arith, c .before .before .before .before .before .before .before .before .before .before .before .before .before .before .before .before .pre)) (c .before .before .before .before .q .given .1) .0 .next, c .before .before .before .before .before .before .before .before .before .before .before .before .before .before .before .before .pre), (type-in (c .before .before .before .before .before .before .before .before .open-type .ensures) (c .before .before .before .before .before .before .before .before .before .before .before .before .before .before .before .before .pre .1 .0) (omega (arith, c .before .before .before .before .before .before .before .before .before .before .before .before .before .before .before .before .pre)) (c .before .before .before .before .q .given .1) .0 .all, omega (arith, type-in (c .before .before .before .before .before .before .before .before .open-type .ensures) (c .before .before .before .before .before .before .before .before .before .before .before .before .before .before .before .before .pre .1 .0) (omega (arith, c .before .before .before .before .before .before .before .before .before .before .before .before .before .before .before .before .pre)) (c .before .before .before .before .q .given .1) .0 .next, c .before .before .before .before .before .before .before .before .before .before .before .before .before .before .before .before .pre)))
 
 enum-known-q-2 : (t : ℕ) → lts.Need-enum-known-q-2 (claims t) (emit-ptr-at t) emit-ptr.Post
 enum-known-q-2 t c = search needs
 
 returns-2 : (t : ℕ) → lts.Need-returns-2 (claims t) (emit-ptr-at t) emit-ptr.Post
-returns-2 t c = aimed-open _ _ _ _ (c .before .before .before .before .before .before .before .before .before .before .before .before .before .before .before .before .before .before .before .before .before .before .args .modified) _ _ _ (c .before .before .before .before .before .before .before .before .before .before .before .before .before .before .before .before .way-to .ensures) (c .before .before .before .before .before .before .before .before .before .before .before .before .before .before .open-type .ensures) (search needs) (c .before .before .before .before .before .before .before .before .before .before .before .q .given .1) (wrote-by (c .before .before .emit-ptr .ensures) (aimed-pointer _ _ _ _ _ _ (c .before .before .before .before .before .before .before .before .before .before .before .before .before .before .before .before .before .before .before .before .before .before .args .modified) _ _ (c .before .before .before .before .before .before .before .before .t .given .1) (c .before .before .before .before .before .aim .ensures .1)))
+returns-2 t c = aimed-open _ _ _ _ _ (c .before .before .before .before .before .before .before .before .before .before .before .before .before .before .before .before .before .before .before .before .before .before .before .before .before .args .modified) _ _ _ (c .before .before .before .before .before .before .before .before .before .before .before .before .before .before .before .before .before .before .before .way-to .ensures) (c .before .before .before .before .before .before .before .before .before .before .before .before .before .before .before .before .before .open-type .ensures) (c .before .before .before .before .before .before .before .before .before .before .before .before .before .before .before .before .before .before .before .before .before .before .before .before .before .pre .1 .0) (omega (arith, c .before .before .before .before .before .before .before .before .before .before .before .before .before .before .before .before .before .before .before .before .before .before .before .before .before .pre)) (c .before .before .before .before .before .before .before .before .before .before .before .before .before .q .given .1) (writes-by (c .before .before .before .before .emit-ptr .ensures) (aimed-pointer _ _ _ _ _ _ (c .before .before .before .before .before .before .before .before .before .before .before .before .before .before .before .before .before .before .before .before .before .before .before .before .before .args .modified) _ _ (c .before .before .before .before .before .before .before .before .before .before .t .given .1) (c .before .before .before .before .before .before .before .aim .ensures .1)))
 
 returns-3 : (t : ℕ) → lts.Need-returns-3 (claims t) (emit-ptr-at t) emit-ptr.Post
-returns-3 t c = aimed-open _ _ _ _ (c .before .before .before .before .before .before .before .before .before .before .before .before .before .before .before .before .before .before .before .before .before .before .before .args .modified) _ _ _ (c .before .before .before .before .before .before .before .before .before .before .before .before .before .before .before .before .before .way-to .ensures) (c .before .before .before .before .before .before .before .before .before .before .before .before .before .before .before .open-type .ensures) (search needs) (c .before .before .before .before .before .before .before .before .before .before .before .before .q .given .1) (wrote-by (c .before .before .emit-ptr2 .ensures) (aimed-modifier _ _ _ _ _ _ _ _ _ (c .before .before .before .before .before .before .before .if1 .left) (c .before .before .before .before .before .before .before .before .before .t2 .given .1) (c .before .before .before .before .before .over-pointee .ensures .levels)))
+returns-3 t c = aimed-open _ _ _ _ _ (c .before .before .before .before .before .before .before .before .before .before .before .before .before .before .before .before .before .before .before .before .before .before .before .before .before .before .args .modified) _ _ _ (c .before .before .before .before .before .before .before .before .before .before .before .before .before .before .before .before .before .before .before .before .way-to .ensures) (c .before .before .before .before .before .before .before .before .before .before .before .before .before .before .before .before .before .before .open-type .ensures) (c .before .before .before .before .before .before .before .before .before .before .before .before .before .before .before .before .before .before .before .before .before .before .before .before .before .before .pre .1 .0) (omega (arith, c .before .before .before .before .before .before .before .before .before .before .before .before .before .before .before .before .before .before .before .before .before .before .before .before .before .before .pre)) (c .before .before .before .before .before .before .before .before .before .before .before .before .before .before .q .given .1) (writes-by (c .before .before .before .before .emit-ptr2 .ensures) (aimed-modifier _ _ _ _ _ _ _ _ _ (c .before .before .before .before .before .before .before .before .before .if1 .left) (c .before .before .before .before .before .before .before .before .before .before .before .t2 .given .1) (c .before .before .before .before .before .before .before .over-pointee .ensures .levels)))
 
 returns-4 : (t : ℕ) → lts.Need-returns-4 (claims t) (emit-ptr-at t) emit-ptr.Post
-returns-4 t c = aimed-open _ _ _ _ (c .before .before .before .before .before .before .before .before .before .before .before .before .before .before .before .before .before .before .args .modified) _ _ _ (c .before .before .before .before .before .before .before .before .before .before .before .before .way-to .ensures) (c .before .before .before .before .before .before .before .before .before .before .open-type .ensures) (search needs) (c .before .before .before .before .before .before .before .q .given .1) (wrote-by (c .before .before .emit-ptr-helper2 .ensures) (aimed-plain _ _ _ _ _ _ (c .before .before .before .before .before .before .before .before .before .before .before .before .before .before .before .before .before .before .args .modified) (c .before .before .before .before .before .match2 .keys3)))
+returns-4 t c = aimed-open _ _ _ _ _ (c .before .before .before .before .before .before .before .before .before .before .before .before .before .before .before .before .before .before .before .before .before .args .modified) _ _ _ (c .before .before .before .before .before .before .before .before .before .before .before .before .before .before .before .way-to .ensures) (c .before .before .before .before .before .before .before .before .before .before .before .before .before .open-type .ensures) (c .before .before .before .before .before .before .before .before .before .before .before .before .before .before .before .before .before .before .before .before .before .pre .1 .0) (omega (arith, c .before .before .before .before .before .before .before .before .before .before .before .before .before .before .before .before .before .before .before .before .before .pre)) (c .before .before .before .before .before .before .before .before .before .q .given .1) (writes-by (c .before .before .before .before .emit-ptr-helper2 .ensures) (aimed-plain _ _ _ _ _ _ (c .before .before .before .before .before .before .before .before .before .before .before .before .before .before .before .before .before .before .before .before .before .args .modified) (c .before .before .before .before .before .before .before .match2 .keys3)))
 
 returns-5 : (t : ℕ) → lts.Need-returns-5 (claims t) (emit-ptr-at t) emit-ptr.Post
-returns-5 t c = aimed-stopped _ _ _ _ (c .before .before .before .before .before .before .before .before .before .before .before .before .args .modified) _ _ _ (c .before .before .before .before .before .before .way-to .ensures) (c .before .before .before .before .open-type .ensures) (search needs) (c .before .q2 .given .1)
+returns-5 t c = aimed-stopped _ _ _ _ _ (c .before .before .before .before .before .before .before .before .before .before .before .before .before .args .modified) _ _ _ (c .before .before .before .before .before .before .before .way-to .ensures) (c .before .before .before .before .before .open-type .ensures) (c .before .before .before .before .before .before .before .before .before .before .before .before .before .pre .1 .0) (omega (arith, c .before .before .before .before .before .before .before .before .before .before .before .before .before .pre)) (c .before .q2 .given .1)
 
 same-length : (t : ℕ) → lts.Need-same-length (claims t) (emit-ptr-at t) emit-ptr.Post
-same-length t c = wrote-length (returns t c)
+same-length t c = writes-length (returns t c)
 
 same-length-2 : (t : ℕ) → lts.Need-same-length-2 (claims t) (emit-ptr-at t) emit-ptr.Post
-same-length-2 t c = wrote-length (returns-2 t c)
+same-length-2 t c = c .before .seen3 .given ∙ c .before .before .before .before .before .before .before .before .before .before .before .before .before .before .before .seen .given
 
 same-length-3 : (t : ℕ) → lts.Need-same-length-3 (claims t) (emit-ptr-at t) emit-ptr.Post
-same-length-3 t c = wrote-length (returns-3 t c)
+same-length-3 t c = writes-length (returns-2 t c)
 
 same-length-4 : (t : ℕ) → lts.Need-same-length-4 (claims t) (emit-ptr-at t) emit-ptr.Post
-same-length-4 t c = wrote-length (returns-4 t c)
+same-length-4 t c = c .before .seen2 .given ∙ c .before .before .before .before .before .before .before .before .before .before .before .before .before .before .before .before .seen .given
+
+same-length-5 : (t : ℕ) → lts.Need-same-length-5 (claims t) (emit-ptr-at t) emit-ptr.Post
+same-length-5 t c = writes-length (returns-3 t c)
+
+same-length-6 : (t : ℕ) → lts.Need-same-length-6 (claims t) (emit-ptr-at t) emit-ptr.Post
+same-length-6 t c = c .before .seen4 .given ∙ c .before .before .before .before .before .before .before .before .before .before .before .before .before .before .before .before .before .seen .given
+
+same-length-7 : (t : ℕ) → lts.Need-same-length-7 (claims t) (emit-ptr-at t) emit-ptr.Post
+same-length-7 t c = writes-length (returns-4 t c)
+
+same-length-8 : (t : ℕ) → lts.Need-same-length-8 (claims t) (emit-ptr-at t) emit-ptr.Post
+same-length-8 t c = c .before .seen5 .given ∙ c .before .before .before .before .before .before .before .before .before .before .before .before .seen .given
+
+same-length-9 : (t : ℕ) → lts.Need-same-length-9 (claims t) (emit-ptr-at t) emit-ptr.Post
+same-length-9 t c = c .before .before .before .before .seen .given
 
 pub closed : {M : Type 1} (t : ℕ) → lts.Closed (claims t) (emit-ptr-at t) emit-ptr.Post M
-closed t = lts.spec (claims t) (emit-ptr-at t) emit-ptr.Post (way-to-requires t) (slice-aggregate-open-type t) (open-type-requires t) (enum-known-q t) (enum-known-t t) (aim-requires t) (array-share-prefix-list t) (slice-aggregate-emit-ptr t) (emit-ptr-requires t) (enum-known-t-2 t) (array-share-prefix-list-2 t) (slice-aggregate-emit-ptr-helper t) (emit-ptr-helper-requires t) (same-length t) (returns t) (over-pointee-requires t) (array-share-prefix-list-3 t) (slice-aggregate-emit-ptr-2 t) (emit-ptr-requires-2 t) (array-share-prefix-list-4 t) (slice-aggregate-emit-ptr-helper-2 t) (emit-ptr-helper-requires-2 t) (enum-known-q-2 t) (same-length-2 t) (returns-2 t) (same-length-3 t) (returns-3 t) (same-length-4 t) (returns-4 t) (returns-5 t)
+closed t = lts.spec (claims t) (emit-ptr-at t) emit-ptr.Post (way-to-requires t) (open-type-requires t) (enum-known-q t) (enum-known-t t) (aim-requires t) (emit-ptr-requires t) (enum-known-t-2 t) (emit-ptr-helper-requires t) (same-length t) (same-length-2 t) (returns t) (over-pointee-requires t) (emit-ptr-requires-2 t) (emit-ptr-helper-requires-2 t) (enum-known-q-2 t) (same-length-3 t) (same-length-4 t) (returns-2 t) (same-length-5 t) (same-length-6 t) (returns-3 t) (same-length-7 t) (same-length-8 t) (returns-4 t) (same-length-9 t) (returns-5 t)

@@ -1,7 +1,7 @@
 -- `emit-return-type` meets its contract, below the measure t. Its needs are in the order of the code.
 use Prim.Native.Nat.{ℕ}
 use borrow.Author.Needs.{needs}
-use Rattle.pen.proofs.Laws.{_▸_, wrote-by, wrote-length}
+use Rattle.context.proofs.Opening.{plain, unlent, _▸▸_, writes-by, writes-length}
 use Rattle.emit.proofs.Laws.{walks}
 use Rattle.emit.proofs.emit_return_type.Reads as emit-return-type
 use Rattle.emit.proofs.emit_type_index.Reads as emit-type-index
@@ -13,22 +13,25 @@ abbrev claims : ℕ → lts.Claims
 claims t = (emit-type-index-below t, emit-type-index.Post, text-reads.Asked, text-reads.Learnt)
 
 returns : (t : ℕ) → lts.Need-returns (claims t) (emit-return-type-at t) emit-return-type.Post
-returns t c = search (walks, needs)
+returns t c = unlent (search (walks, needs))
 
 emit-type-index-requires : (t : ℕ) → lts.Need-emit-type-index-requires (claims t) (emit-return-type-at t) emit-return-type.Post
-emit-type-index-requires t c κs = search (c .before .if1, c .before .before .before .before .before .before .pre, needs)
+emit-type-index-requires t c κs = search (c .before .before .if1, c .before .before .before .before .before .before .before .fits, c .before .before .before .before .before .before .before .pre, needs)
 
 slice-aggregate-text : (t : ℕ) → lts.Need-slice-aggregate-text (claims t) (emit-return-type-at t) emit-return-type.Post
 slice-aggregate-text t c = search needs
 
 text-requires : (t : ℕ) → lts.Need-text-requires (claims t) (emit-return-type-at t) emit-return-type.Post
-text-requires t c κs = search (c .before .before .before .before .before .before .if1, c .before .before .before .before .before .before .before .before .before .before .before .pre, needs)
+text-requires t c κs = search (c .before .before .before .before .before .before .before .before .before .if1, c .before .before .before .before .before .before .before .before .before .before .before .before .before .before .fits, c .before .before .before .before .before .before .before .before .before .before .before .before .before .before .pre, needs)
 
 returns-2 : (t : ℕ) → lts.Need-returns-2 (claims t) (emit-return-type-at t) emit-return-type.Post
-returns-2 t c = wrote-by (c .before .before .before .before .before .before .before .emit-type-index .ensures ▸ c .before .before .text .ensures) (search (walks, c .before .before .before .before .before .before .before .before .before .if1, c .before .before .before .before .before .before .before .before .before .before .before .before .before .before .pre, needs))
+returns-2 t c = writes-by (c .before .before .before .before .before .before .before .before .before .emit-type-index .ensures ▸▸ plain (c .before .before .text .ensures)) (search (walks, c .before .before .before .before .before .before .before .before .before .before .before .before .if1, c .before .before .before .before .before .before .before .before .before .before .before .before .before .before .before .before .before .fits, c .before .before .before .before .before .before .before .before .before .before .before .before .before .before .before .before .before .pre, needs))
 
 same-length : (t : ℕ) → lts.Need-same-length (claims t) (emit-return-type-at t) emit-return-type.Post
-same-length t c = wrote-length (returns-2 t c)
+same-length t c = writes-length (returns-2 t c)
+
+same-length-2 : (t : ℕ) → lts.Need-same-length-2 (claims t) (emit-return-type-at t) emit-return-type.Post
+same-length-2 t c = c .before .before .before .before .before .before .seen .given
 
 pub closed : {M : Type 1} (t : ℕ) → lts.Closed (claims t) (emit-return-type-at t) emit-return-type.Post M
-closed t = lts.spec (claims t) (emit-return-type-at t) emit-return-type.Post (returns t) (emit-type-index-requires t) (slice-aggregate-text t) (text-requires t) (same-length t) (returns-2 t)
+closed t = lts.spec (claims t) (emit-return-type-at t) emit-return-type.Post (returns t) (emit-type-index-requires t) (slice-aggregate-text t) (text-requires t) (same-length t) (same-length-2 t) (returns-2 t)

@@ -2,10 +2,11 @@
 use Prim.Native.Nat.{ℕ}
 use borrow.Author.Needs.{needs}
 use native.Mathlib.Omega.{arith}
-use Rattle.pen.proofs.Laws.{_▸_, wrote-by, wrote-step, wrote-length, wrote-idle}
-use Rattle.context.proofs.Opening.{in-length, open-in}
+use Rattle.pen.proofs.Laws.{wrote-step, wrote-idle}
+use mathlib.Core.Path.{_∙_}
+use Rattle.context.proofs.Opening.{open-in, plain, unlent, _▸▸_, writes-by, writes-length}
 use Rattle.emit.proofs.Laws.{self-stopped, self-open, self-bad}
-use Rattle.emit.proofs.Laws.{arrayed-low, in-lent, in-fits}
+use Rattle.emit.proofs.Laws.{arrayed-low}
 use Rattle.emit.proofs.emit_type.Reads as emit-type
 use Rattle.emit.proofs.emit_type_index.Reads as emit-type-index
 use Rattle.context.proofs.seen.open_index.Reads as open-index-reads
@@ -19,34 +20,25 @@ abbrev claims : ℕ → lts.Claims
 claims t = (is-idle-reads.Asked, is-idle-reads.Learnt, type-at-reads.Asked, type-at-reads.Learnt, open-index-reads.Asked, open-index-reads.Learnt, emit-type-below t, emit-type.Post, emit-mark-reads.Asked, emit-mark-reads.Learnt)
 
 is-idle-requires : (t : ℕ) → lts.Need-is-idle-requires (claims t) (emit-type-index-at t) emit-type-index.Post
-is-idle-requires t c κs = search (c .before .before .before .before .pre, needs)
+is-idle-requires t c κs = search (c .before .before .before .before .fits, c .before .before .before .before .pre, needs)
 
 returns : (t : ℕ) → lts.Need-returns (claims t) (emit-type-index-at t) emit-type-index.Post
-returns t c = wrote-idle (cc)
+returns t c = unlent (wrote-idle (cc))
 
 type-at-requires : (t : ℕ) → lts.Need-type-at-requires (claims t) (emit-type-index-at t) emit-type-index.Post
-type-at-requires t c κs = search (c .before .if1, c .before .before .before .before .before .before .before .pre, c .before .before .is-idle .ensures, needs)
+type-at-requires t c κs = search (c .before .if1, c .before .before .before .before .before .before .before .fits, c .before .before .before .before .before .before .before .pre, c .before .before .is-idle .ensures, needs)
 
 enum-known-t : (t : ℕ) → lts.Need-enum-known-t (claims t) (emit-type-index-at t) emit-type-index.Post
 enum-known-t t c = search needs
 
-slice-aggregate-open-index : (t : ℕ) → lts.Need-slice-aggregate-open-index (claims t) (emit-type-index-at t) emit-type-index.Post
-slice-aggregate-open-index t c = search needs
-
 open-index-requires : (t : ℕ) → lts.Need-open-index-requires (claims t) (emit-type-index-at t) emit-type-index.Post
-open-index-requires t c κs = search (c .before .before .before .match, c .before .before .before .before .before .before .if1, c .before .before .before .before .before .before .before .before .before .before .before .before .pre, c .before .before .before .before .type-at .ensures, c .before .before .before .before .before .before .before .is-idle .ensures, needs)
+open-index-requires t c κs = search (c .before .before .before .match, c .before .before .before .before .before .before .if1, c .before .before .before .before .before .before .before .before .before .before .before .before .fits, c .before .before .before .before .before .before .before .before .before .before .before .before .pre, c .before .before .before .before .type-at .ensures, c .before .before .before .before .before .before .before .is-idle .ensures, needs)
 
 enum-known-q : (t : ℕ) → lts.Need-enum-known-q (claims t) (emit-type-index-at t) emit-type-index.Post
 enum-known-q t c = search needs
 
-array-share-prefix-list : (t : ℕ) → lts.Need-array-share-prefix-list (claims t) (emit-type-index-at t) emit-type-index.Post
-array-share-prefix-list t c = in-fits (open-in (c .before .before .before .before .before .open-index .ensures) (search needs) (c .before .before .q .given .1))
-
-slice-aggregate-emit-type : (t : ℕ) → lts.Need-slice-aggregate-emit-type (claims t) (emit-type-index-at t) emit-type-index.Post
-slice-aggregate-emit-type t c = in-lent (open-in (c .before .before .before .before .before .before .open-index .ensures) (search needs) (c .before .before .before .q .given .1))
-
 emit-type-requires : (t : ℕ) → lts.Need-emit-type-requires (claims t) (emit-type-index-at t) emit-type-index.Post
-emit-type-requires t c κs = (omega (arith, in-length (open-in (c .before .before .before .before .before .before .open-index .ensures) (search needs) (c .before .before .before .q .given .1)), open-in (c .before .before .before .before .before .before .open-index .ensures) (search needs) (c .before .before .before .q .given .1) .few, arrayed-low (c .before .before .before .before .before .before .before .before .before .t .given .0 .0), c .before .before .before .before .before .before .before .before .before .before .before .before .before .before .before .before .before .before .before .pre), omega (arith, in-length (open-in (c .before .before .before .before .before .before .open-index .ensures) (search needs) (c .before .before .before .q .given .1))))
+emit-type-requires t c κs = (omega (arith, open-in (c .before .before .before .before .before .before .before .open-index .ensures) (c .before .before .before .before .before .before .before .before .before .before .before .before .before .before .before .before .before .before .before .before .pre .1 .0) (omega (arith, c .before .before .before .before .before .before .before .before .before .before .before .before .before .before .before .before .before .before .before .before .pre)) (c .before .before .before .q .given .1) .next, arrayed-low (c .before .before .before .before .before .before .before .before .before .before .t .given .0 .0), c .before .before .before .before .before .before .before .before .before .before .before .before .before .before .before .before .before .before .before .before .pre), (open-in (c .before .before .before .before .before .before .before .open-index .ensures) (c .before .before .before .before .before .before .before .before .before .before .before .before .before .before .before .before .before .before .before .before .pre .1 .0) (omega (arith, c .before .before .before .before .before .before .before .before .before .before .before .before .before .before .before .before .before .before .before .before .pre)) (c .before .before .before .q .given .1) .all, omega (arith, open-in (c .before .before .before .before .before .before .before .open-index .ensures) (c .before .before .before .before .before .before .before .before .before .before .before .before .before .before .before .before .before .before .before .before .pre .1 .0) (omega (arith, c .before .before .before .before .before .before .before .before .before .before .before .before .before .before .before .before .before .before .before .before .pre)) (c .before .before .before .q .given .1) .next, c .before .before .before .before .before .before .before .before .before .before .before .before .before .before .before .before .before .before .before .before .pre)))
 
 enum-known-q-2 : (t : ℕ) → lts.Need-enum-known-q-2 (claims t) (emit-type-index-at t) emit-type-index.Post
 enum-known-q-2 t c = search needs
@@ -55,22 +47,28 @@ enum-known-f : (t : ℕ) → lts.Need-enum-known-f (claims t) (emit-type-index-a
 enum-known-f t c = search needs
 
 emit-mark-requires : (t : ℕ) → lts.Need-emit-mark-requires (claims t) (emit-type-index-at t) emit-type-index.Post
-emit-mark-requires t c κs = search (c .before .before .before .match, c .before .before .before .before .before .before .if1, c .before .before .before .before .before .before .before .before .before .before .before .before .pre, c .before .before .before .before .type-at .ensures, c .before .before .before .before .before .before .before .is-idle .ensures, needs)
+emit-mark-requires t c κs = search (c .before .before .before .match, c .before .before .before .before .before .before .if1, c .before .before .before .before .before .before .before .before .before .before .before .before .fits, c .before .before .before .before .before .before .before .before .before .before .before .before .pre, c .before .before .before .before .type-at .ensures, c .before .before .before .before .before .before .before .is-idle .ensures, needs)
 
 returns-2 : (t : ℕ) → lts.Need-returns-2 (claims t) (emit-type-index-at t) emit-type-index.Post
-returns-2 t c = self-open _ _ _ _ _ (c .before .before .before .before .before .before .before .before .before .before .before .before .before .before .type-at .ensures) (c .before .before .before .before .before .before .before .before .before .before .before .before .t .given .1) (c .before .before .before .before .before .before .before .before .before .open-index .ensures) (search needs) (c .before .before .before .before .before .before .q .given .1) (c .before .before .emit-type .ensures)
+returns-2 t c = self-open _ _ _ _ _ _ (c .before .before .before .before .before .before .before .before .before .before .before .before .before .before .before .before .before .type-at .ensures) (c .before .before .before .before .before .before .before .before .before .before .before .before .before .before .before .t .given .1) (c .before .before .before .before .before .before .before .before .before .before .before .before .open-index .ensures) (c .before .before .before .before .before .before .before .before .before .before .before .before .before .before .before .before .before .before .before .before .before .before .before .before .before .pre .1 .0) (omega (arith, c .before .before .before .before .before .before .before .before .before .before .before .before .before .before .before .before .before .before .before .before .before .before .before .before .before .pre)) (c .before .before .before .before .before .before .before .before .q .given .1) (c .before .before .before .before .emit-type .ensures)
 
 returns-3 : (t : ℕ) → lts.Need-returns-3 (claims t) (emit-type-index-at t) emit-type-index.Post
-returns-3 t c = self-stopped _ _ _ _ _ (c .before .before .before .before .before .before .before .before .before .type-at .ensures) (c .before .before .before .before .before .before .before .t .given .1) (c .before .before .before .before .open-index .ensures) (search needs) (c .before .q2 .given .1)
+returns-3 t c = self-stopped _ _ _ _ _ _ (c .before .before .before .before .before .before .before .before .before .before .type-at .ensures) (c .before .before .before .before .before .before .before .before .t .given .1) (c .before .before .before .before .before .open-index .ensures) (c .before .before .before .before .before .before .before .before .before .before .before .before .before .before .before .before .before .before .pre .1 .0) (omega (arith, c .before .before .before .before .before .before .before .before .before .before .before .before .before .before .before .before .before .before .pre)) (c .before .q2 .given .1)
 
 returns-4 : (t : ℕ) → lts.Need-returns-4 (claims t) (emit-type-index-at t) emit-type-index.Post
-returns-4 t c = wrote-by (wrote-step ▸ (c .before .before .emit-mark .ensures)) (self-bad _ _ _ _ _ _ _ (c .before .before .before .before .before .before .before .type-at .ensures) (c .before .before .before .before .before .f .given .1))
+returns-4 t c = writes-by (plain wrote-step ▸▸ (plain (c .before .before .emit-mark .ensures))) (self-bad _ _ _ _ _ _ _ (c .before .before .before .before .before .before .before .type-at .ensures) (c .before .before .before .before .before .f .given .1))
 
 same-length : (t : ℕ) → lts.Need-same-length (claims t) (emit-type-index-at t) emit-type-index.Post
-same-length t c = wrote-length (returns-2 t c)
+same-length t c = writes-length (returns-2 t c)
 
 same-length-2 : (t : ℕ) → lts.Need-same-length-2 (claims t) (emit-type-index-at t) emit-type-index.Post
-same-length-2 t c = wrote-length (returns-4 t c)
+same-length-2 t c = c .before .seen2 .given ∙ c .before .before .before .before .before .before .before .before .before .before .before .seen .given
+
+same-length-3 : (t : ℕ) → lts.Need-same-length-3 (claims t) (emit-type-index-at t) emit-type-index.Post
+same-length-3 t c = c .before .before .before .before .seen .given
+
+same-length-4 : (t : ℕ) → lts.Need-same-length-4 (claims t) (emit-type-index-at t) emit-type-index.Post
+same-length-4 t c = writes-length (returns-4 t c)
 
 pub closed : {M : Type 1} (t : ℕ) → lts.Closed (claims t) (emit-type-index-at t) emit-type-index.Post M
-closed t = lts.spec (claims t) (emit-type-index-at t) emit-type-index.Post (is-idle-requires t) (returns t) (type-at-requires t) (enum-known-t t) (slice-aggregate-open-index t) (open-index-requires t) (enum-known-q t) (array-share-prefix-list t) (slice-aggregate-emit-type t) (emit-type-requires t) (enum-known-q-2 t) (enum-known-f t) (emit-mark-requires t) (same-length t) (returns-2 t) (returns-3 t) (same-length-2 t) (returns-4 t)
+closed t = lts.spec (claims t) (emit-type-index-at t) emit-type-index.Post (is-idle-requires t) (returns t) (type-at-requires t) (enum-known-t t) (open-index-requires t) (enum-known-q t) (emit-type-requires t) (enum-known-q-2 t) (enum-known-f t) (emit-mark-requires t) (same-length t) (same-length-2 t) (returns-2 t) (same-length-3 t) (returns-3 t) (same-length-4 t) (returns-4 t)
