@@ -12,8 +12,7 @@ use Rattle.wire.specs.Field.{pick}
 use Rattle.streams.specs.Refusal.{numberOf, detailOf}
 use Rattle.streams.specs.declared.refusal.Refusal.{Refusal}
 use Rattle.streams.specs.declared.refusal.Refusal.the-variants.{CircularTypeDefinition, TooManyOpen}
-use Rattle.streams.specs.declared.stream.Stream.{Stream}
-use Rattle.codeview.specs.Read.{readType}
+use Rattle.codeview.specs.Read.{readTypeIn}
 use Rattle.codeview.specs.declared.record.TypeData.{TypeData}
 use Rattle.codeview.specs.declared.record.TypeRead.{TypeRead}
 use Rattle.codeview.specs.declared.record.TypeRead.the-variants as typeRead
@@ -21,7 +20,8 @@ use Rattle.interpreter.specs.Trace.{Trace, tr, halted, again, deep, count, pref
 use Rattle.interpreter.specs.Trace as trace
 use Rattle.interpreter.proofs.Laws.{walk-through, walk-again, walk-deep, walk-open}
 use Rattle.rules.specs.Flags.{Settings}
-use Rattle.rules.specs.Record.{Record, good, bad, Table, typeContents, typeAsRead, tableOf}
+use Rattle.rules.specs.Places.{tableBy, Lent, tableIn}
+use Rattle.rules.specs.Record.{Record, good, bad, Table, typeContents, typeAsRead}
 use Rattle.rules.specs.Task.{Task, Rule, inside, unread}
 use Rattle.rules.specs.Opening.{sameIndex, entryOf, body, rank, walked, ruled}
 use Rattle.rules.proofs.Rank.{ranked}
@@ -34,7 +34,7 @@ use Rattle.context.specs.declared.seen.Opening.{Opening}
 use Rattle.context.specs.declared.seen.Opening.the-variants as opening
 use Rattle.context.specs.declared.seen.TypeOpening.{TypeOpening}
 use Rattle.context.specs.declared.seen.TypeOpening.the-variants as typeOpening
-use Rattle.context.specs.Context.{settingsOf, tableIn, keysOf, hasIndex, holding}
+use Rattle.context.specs.Context.{settingsOf, keysOf, hasIndex, holding}
 use Rattle.context.specs.Opening.{wayOf, noted, Leaves, leaves, opensTo, Opens, readTo, openedTo, opensTypeTo, OpensType, Writes}
 use Rattle.context.proofs.Laws.{keys-push, keys-length, drop-push}
 
@@ -125,14 +125,14 @@ never : {q u : Pen} {n : ℕ} {d : TypeData} → typeOpening.Open q n d ≡ type
 never e = let z : _≡_ {A = ℕ} 0 1 = cc in omega arith
 
 -- What is known of an index that was opened and read.
-pub type-in : {types : List ℕ} {stream : Stream} {p : Pen} {list : List ℕ} {left : ℕ} {w : Way} {i : ℕ} {l : List ℕ} {r : TypeOpening} {q : Pen} {n : ℕ} {d : TypeData}
-    → OpensType types stream p list left w i l r → length list ≡ 96 → left ≤ 96 → r ≡ typeOpening.Open q n d → In p list left w i l q n × (readType types stream i ≡ typeRead.Good d)
+pub type-in : {types bounds places : List ℕ} {p : Pen} {list : List ℕ} {left : ℕ} {w : Way} {i : ℕ} {l : List ℕ} {r : TypeOpening} {q : Pen} {n : ℕ} {d : TypeData}
+    → OpensType types bounds places p list left w i l r → length list ≡ 96 → left ≤ 96 → r ≡ typeOpening.Open q n d → In p list left w i l q n × (readTypeIn types bounds places i ≡ typeRead.Good d)
 unfolding opensTypeTo openedTo readTo
-type-in {types} {stream} {p} {list} {left} {w} {i} {l} {r} {q} {n} {d} z room low f =
-    by (opensTo p list left w i .answer) (opensTo p list left w i .list) (readType types stream i) refl refl (ap (λ (y : TypeOpening). leaves l y) (sym f) ∙ z .is)
+type-in {types} {bounds} {places} {p} {list} {left} {w} {i} {l} {r} {q} {n} {d} z room low f =
+    by (opensTo p list left w i .answer) (opensTo p list left w i .list) (readTypeIn types bounds places i) refl refl (ap (λ (y : TypeOpening). leaves l y) (sym f) ∙ z .is)
   where
-    by : (a : Opening) (m : List ℕ) (y : TypeRead) → leaves m a ≡ opensTo p list left w i → readType types stream i ≡ y → leaves l (typeOpening.Open q n d) ≡ leaves m (openedTo y a)
-        → In p list left w i l q n × (readType types stream i ≡ typeRead.Good d)
+    by : (a : Opening) (m : List ℕ) (y : TypeRead) → leaves m a ≡ opensTo p list left w i → readTypeIn types bounds places i ≡ y → leaves l (typeOpening.Open q n d) ≡ leaves m (openedTo y a)
+        → In p list left w i l q n × (readTypeIn types bounds places i ≡ typeRead.Good d)
     by (opening.Open u k) m (typeRead.Good a) g h v =
         let same : m ≡ l = sym (ap (λ (a : Leaves TypeOpening). a .list) v) in
         let so : typeOpening.Open q n d ≡ typeOpening.Open u k a = ap (λ (a : Leaves TypeOpening). a .answer) v in
@@ -177,25 +177,25 @@ writes-by a e = record { wrote = wrote-by (a .wrote) e; kept = a .kept }
 pub writes-length : {left : ℕ} {list l : List ℕ} {g h : Page} {t : List ℕ → Trace Refusal} → Writes left list l g t h → length (h .buf) ≡ length (g .buf)
 writes-length a = wrote-length (a .wrote)
 
-module _ (s d : List ℕ) (call : Call) where
+module _ (s : List ℕ) (d : Lent) (call : Call) where
   abbrev c : Settings
   c = settingsOf call
 
   abbrev t : Table
-  t = tableIn s d call
+  t = tableIn s d
 
   module _ (o : List ℕ) where
     abbrev h : Held
     h = holding call o
 
     -- What was read.
-    pub read-good : (i : ℕ) (r : TypeRead) (x : TypeData) → r ≡ readType s (call .types) i → r ≡ typeRead.Good x → t .types i ≡ good (typeContents s x)
-    unfolding tableIn tableOf typeAsRead
-    read-good i r x e f = let k : readType s (call .types) i ≡ typeRead.Good x = cc in rw k
+    pub read-good : (i : ℕ) (r : TypeRead) (x : TypeData) → r ≡ readTypeIn s (d .bounds) (d .places) i → r ≡ typeRead.Good x → t .types i ≡ good (typeContents s x)
+    unfolding tableIn tableBy typeAsRead
+    read-good i r x e f = let k : readTypeIn s (d .bounds) (d .places) i ≡ typeRead.Good x = cc in rw k
 
-    pub read-bad : (i : ℕ) (r : TypeRead) (f : Refusal) → r ≡ readType s (call .types) i → r ≡ typeRead.Refused f → t .types i ≡ bad f
-    unfolding tableIn tableOf typeAsRead
-    read-bad i r f e g = let k : readType s (call .types) i ≡ typeRead.Refused f = cc in rw k
+    pub read-bad : (i : ℕ) (r : TypeRead) (f : Refusal) → r ≡ readTypeIn s (d .bounds) (d .places) i → r ≡ typeRead.Refused f → t .types i ≡ bad f
+    unfolding tableIn tableBy typeAsRead
+    read-bad i r f e g = let k : readTypeIn s (d .bounds) (d .places) i ≡ typeRead.Refused f = cc in rw k
 
     pub walk-on : (q : Task) (p : Rule) → entryOf c t q ≡ through → body c t q ≡ p → step ⨾ ruled c t h p ≡ walked c t h q
     unfolding walked ruled step _⨾_
@@ -275,8 +275,8 @@ module _ (s d : List ℕ) (call : Call) where
 
     -- And for one that is opened and then read: k is what the rule does with its record.
     module _ (k : Record → Rule) (e₁ : body c t x ≡ inside (t .types i) k) {p : Pen} {l : List ℕ} {r : TypeOpening} (b : List ℕ)
-        (z : OpensType s (call .types) p list left w i l r) (room : length list ≡ 96) (low : left ≤ 96) where
-      read-then : {u q : Pen} {m : List ℕ} {n : ℕ} (y : TypeRead) → y ≡ readType s (call .types) i → leaves m (opening.Open u n) ≡ opensTo p list left w i
+        (z : OpensType s (d .bounds) (d .places) p list left w i l r) (room : length list ≡ 96) (low : left ≤ 96) where
+      read-then : {u q : Pen} {m : List ℕ} {n : ℕ} (y : TypeRead) → y ≡ readTypeIn s (d .bounds) (d .places) i → leaves m (opening.Open u n) ≡ opensTo p list left w i
           → leaves l (typeOpening.Stopped q) ≡ leaves m (readTo u n y) → Writes left list l (page b p) walk (page b q)
       unfolding readTo
       read-then (typeRead.Good d) f g v = absurd (never (sym (ap (λ (a : Leaves TypeOpening). a .answer) v)))
@@ -293,16 +293,16 @@ module _ (s d : List ℕ) (call : Call) where
       unfolding opensTypeTo openedTo
       type-stopped {q} f = by (opensTo p list left w i .answer) (opensTo p list left w i .list) refl (ap (λ (y : TypeOpening). leaves l y) (sym f) ∙ z .is)
         where
-          by : (a : Opening) (m : List ℕ) → leaves m a ≡ opensTo p list left w i → leaves l (typeOpening.Stopped q) ≡ leaves m (openedTo (readType s (call .types) i) a)
+          by : (a : Opening) (m : List ℕ) → leaves m a ≡ opensTo p list left w i → leaves l (typeOpening.Stopped q) ≡ leaves m (openedTo (readTypeIn s (d .bounds) (d .places) i) a)
               → Writes left list l (page b p) walk (page b q)
-          by (opening.Open u n) m g v = read-then (readType s (call .types) i) refl g v
+          by (opening.Open u n) m g v = read-then (readTypeIn s (d .bounds) (d .places) i) refl g v
           by (opening.Stopped u) m g v =
               let so : typeOpening.Stopped q ≡ typeOpening.Stopped u = ap (λ (a : Leaves TypeOpening). a .answer) v in
               let same : u ≡ q = cc in
               let on : m ≡ l = sym (ap (λ (a : Leaves TypeOpening). a .list) v) in
               walk-out l b room low (rw (same, on) at g)
 
-      pub type-open : {q : Pen} {n : ℕ} {d : TypeData} {m : List ℕ} {g : Page} → r ≡ typeOpening.Open q n d → Writes n l m (page b q) (λ o. ruled c t (holding call o) (k (typeContents s d))) g
+      pub type-open : {q : Pen} {n : ℕ} {a : TypeData} {m : List ℕ} {g : Page} → r ≡ typeOpening.Open q n a → Writes n l m (page b q) (λ o. ruled c t (holding call o) (k (typeContents s a))) g
           → Writes left list m (page b p) walk g
-      type-open {q} {n} {d} f v =
-          opened-then b (k (typeContents s d)) (type-in z room low f .0) (e₁ ∙ rw (read-good (drop left list) i (readType s (call .types) i) d refl (type-in z room low f .1))) v
+      type-open {q} {n} {a} f v =
+          opened-then b (k (typeContents s a)) (type-in z room low f .0) (e₁ ∙ rw (read-good (drop left list) i (readTypeIn s (d .bounds) (d .places) i) a refl (type-in z room low f .1))) v

@@ -12,7 +12,6 @@ use Rattle.codeview.specs.declared.record.PointerMode.{PointerMode}
 use Rattle.codeview.specs.declared.record.PointerMode.the-variants as mode
 use Rattle.interpreter.specs.Trace.{Key, key, Held, held}
 use Rattle.rules.specs.Flags.{Settings, settings}
-use Rattle.rules.specs.Record.{Table, tableOf}
 use Rattle.rules.specs.Text.{Level, level}
 use Rattle.context.specs.declared.flags.TypeFormatterFlags.{TypeFormatterFlags}
 use Rattle.context.specs.declared.flags.FlagsRead.{FlagsRead}
@@ -30,12 +29,9 @@ known bits = pick (ltb bits 64) (Known (record { 0 = bits })) (Refused (UnknownF
 unfoldable pub intersects : ℕ → ℕ → Bool
 intersects bits other = not (eqb (bitAnd bits other) 0)
 
--- The settings and the table that a call's writers go by.
+-- The settings that a call's writers go by.
 unfoldable pub settingsOf : Call → Settings
 settingsOf c = settings (c .flags .0) (c .size)
-
-unfoldable pub tableIn : List ℕ → List ℕ → Call → Table
-tableIn types ids c = tableOf types (c .types) ids (c .ids)
 
 -- An open key, packed in one number: the way above the 32 bits of the index.
 abbrev pub keyOf : ℕ → Key

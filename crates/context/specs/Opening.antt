@@ -7,8 +7,7 @@ use lib.Dec.{eqb}
 use Rattle.wire.specs.Field.{pick}
 use Rattle.streams.specs.declared.refusal.Refusal.{Refusal}
 use Rattle.streams.specs.declared.refusal.Refusal.the-variants.{CircularTypeDefinition, TooManyOpen}
-use Rattle.streams.specs.declared.stream.Stream.{Stream}
-use Rattle.codeview.specs.Read.{readType}
+use Rattle.codeview.specs.Read.{readTypeIn}
 use Rattle.codeview.specs.declared.record.TypeRead.{TypeRead}
 use Rattle.codeview.specs.declared.record.TypeRead.the-variants as typeRead
 use Rattle.interpreter.specs.Trace.{Trace}
@@ -70,8 +69,8 @@ unfoldable pub opensTypeTo : TypeRead → Leaves Opening → Leaves TypeOpening
 opensTypeTo r x = leaves (x .list) (openedTo r (x .answer))
 
 -- What `open_type` leaves.
-pub record OpensType (types : List ℕ) (t : Stream) (p : Pen) (list : List ℕ) (left : ℕ) (w : Way) (i : ℕ) (l : List ℕ) (r : TypeOpening) : Type 0 where
-  pub is : leaves l r ≡ opensTypeTo (readType types t i) (opensTo p list left w i)
+pub record OpensType (types bounds places : List ℕ) (p : Pen) (list : List ℕ) (left : ℕ) (w : Way) (i : ℕ) (l : List ℕ) (r : TypeOpening) : Type 0 where
+  pub is : leaves l r ≡ opensTypeTo (readTypeIn types bounds places i) (opensTo p list left w i)
   pub small : i < 4_294_967_296
 
 -- What a writer leaves that is lent the list: the page h is what the trace makes of the page g, by those that are open; and these stay as they are, at exit too.

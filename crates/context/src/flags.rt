@@ -4,7 +4,6 @@ ghost use Prim.Native.Nat.{_/_, _%_, _<_};
 ghost use lib.Dec.{eqb};
 ghost use Rattle.context.specs.Context.{known};
 use streams::refusal::Refusal;
-use streams::stream::Stream;
 
 pub struct TypeFormatterFlags(pub u32);
 
@@ -50,6 +49,4 @@ pub struct Call {
     pub flags: TypeFormatterFlags,
     pub size: u32,
     pub chain: u32,
-    pub types: Stream,
-    pub ids: Stream,
 }

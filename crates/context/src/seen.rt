@@ -12,7 +12,6 @@ use codeview::record::TypeRead;
 use codeview::types::type_at;
 use pen::Pen;
 use streams::refusal::Refusal;
-use streams::stream::Stream;
 
 // The ways in which an index is opened: as the type of a function, by itself, as a pointer's target, as the target of a pointer's modifier, as any other
 // modifier's target, as a method's argument list.
@@ -86,7 +85,8 @@ pub fn open_index(p: Pen, seen: &mut [u64], left: usize, way: Way, index: TypeIn
 // Opens an index, then reads it. A missing one ends the text.
 pub fn open_type(
     types: &[u8],
-    stream: Stream,
+    bounds: &[u32],
+    places: &[u32],
     p: Pen,
     seen: &mut [u64],
     left: usize,
@@ -94,10 +94,10 @@ pub fn open_type(
     index: TypeIndex,
 ) -> TypeOpening
     requires { ⌜ left ≤ length (now seen) ⌝ }
-    ensures { λ r. ⌜ OpensType (now (types .entry)) stream p (now (seen .entry)) left way (index .0) (now (seen .exit)) r ⌝ }
+    ensures { λ r. ⌜ OpensType (now (types .entry)) (now (bounds .entry)) (now (places .entry)) p (now (seen .entry)) left way (index .0) (now (seen .exit)) r ⌝ }
 {
     match open_index(p, seen, left, way, index) {
-        Opening::Open(q, n) => match type_at(types, stream, index) {
+        Opening::Open(q, n) => match type_at(types, bounds, places, index) {
             TypeRead::Good(t) => TypeOpening::Open(q, n, t),
             TypeRead::Refused(f) => TypeOpening::Stopped(pen::unreadable(q, f)),
         },

@@ -16,8 +16,17 @@ tableBy l ps s t m qs d u =
       ids = λ i. idAsRead d (readIdBy m qs d u i);
     }
 
--- The same, where the bounds of both streams, and how their places are laid out, are lent as numbers.
-unfoldable pub tableIn : List ℕ → List ℕ → List ℕ → List ℕ → Table
-tableIn types ids bounds places =
-    tableBy (layoutIn bounds Types) (placesIn bounds places Types) types (streamIn bounds Types)
-    (layoutIn bounds Ids) (placesIn bounds places Ids) ids (streamIn bounds Ids)
+-- What is lent to a call's writers beside the types: the ids, the numbers that the checks found of both streams, and the places of both.
+pub record Lent : Type 0 where
+  pub ids : List ℕ
+  pub bounds : List ℕ
+  pub places : List ℕ
+
+abbrev pub lent : List ℕ → List ℕ → List ℕ → Lent
+lent ids bounds places = record { ids = ids; bounds = bounds; places = places }
+
+-- The table that the writers go by.
+unfoldable pub tableIn : List ℕ → Lent → Table
+tableIn types d =
+    tableBy (layoutIn (d .bounds) Types) (placesIn (d .bounds) (d .places) Types) types (streamIn (d .bounds) Types)
+    (layoutIn (d .bounds) Ids) (placesIn (d .bounds) (d .places) Ids) (d .ids) (streamIn (d .bounds) Ids)
