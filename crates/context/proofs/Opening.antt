@@ -20,7 +20,7 @@ use Rattle.interpreter.specs.Trace.{Trace, tr, halted, again, deep, count, pref
 use Rattle.interpreter.specs.Trace as trace
 use Rattle.interpreter.proofs.Laws.{walk-through, walk-again, walk-deep, walk-open}
 use Rattle.rules.specs.Flags.{Settings}
-use Rattle.rules.specs.Places.{tableBy, Lent, tableIn}
+use Rattle.rules.specs.Places.{tableBy, readNear, Lent, tableIn}
 use Rattle.rules.specs.Record.{Record, good, bad, Table, typeContents, typeAsRead}
 use Rattle.rules.specs.Task.{Task, Rule, inside, unread}
 use Rattle.rules.specs.Opening.{sameIndex, entryOf, body, rank, walked, ruled}
@@ -189,13 +189,13 @@ module _ (s : List ℕ) (d : Lent) (call : Call) where
     h = holding call o
 
     -- What was read.
-    pub read-good : (i : ℕ) (r : TypeRead) (x : TypeData) → r ≡ readTypeIn s (d .bounds) (d .places) i → r ≡ typeRead.Good x → t .types i ≡ good (typeContents s x)
+    pub read-good : (i : ℕ) (r : TypeRead) (x : TypeData) → r ≡ readNear s (d .near) i → r ≡ typeRead.Good x → t .types i ≡ good (typeContents s x)
     unfolding tableIn tableBy typeAsRead
-    read-good i r x e f = let k : readTypeIn s (d .bounds) (d .places) i ≡ typeRead.Good x = cc in rw k
+    read-good i r x e f = let k : readNear s (d .near) i ≡ typeRead.Good x = cc in rw k
 
-    pub read-bad : (i : ℕ) (r : TypeRead) (f : Refusal) → r ≡ readTypeIn s (d .bounds) (d .places) i → r ≡ typeRead.Refused f → t .types i ≡ bad f
+    pub read-bad : (i : ℕ) (r : TypeRead) (f : Refusal) → r ≡ readNear s (d .near) i → r ≡ typeRead.Refused f → t .types i ≡ bad f
     unfolding tableIn tableBy typeAsRead
-    read-bad i r f e g = let k : readTypeIn s (d .bounds) (d .places) i ≡ typeRead.Refused f = cc in rw k
+    read-bad i r f e g = let k : readNear s (d .near) i ≡ typeRead.Refused f = cc in rw k
 
     pub walk-on : (q : Task) (p : Rule) → entryOf c t q ≡ through → body c t q ≡ p → step ⨾ ruled c t h p ≡ walked c t h q
     unfolding walked ruled step _⨾_
@@ -275,8 +275,8 @@ module _ (s : List ℕ) (d : Lent) (call : Call) where
 
     -- And for one that is opened and then read: k is what the rule does with its record.
     module _ (k : Record → Rule) (e₁ : body c t x ≡ inside (t .types i) k) {p : Pen} {l : List ℕ} {r : TypeOpening} (b : List ℕ)
-        (z : OpensType s (d .bounds) (d .places) p list left w i l r) (room : length list ≡ 96) (low : left ≤ 96) where
-      read-then : {u q : Pen} {m : List ℕ} {n : ℕ} (y : TypeRead) → y ≡ readTypeIn s (d .bounds) (d .places) i → leaves m (opening.Open u n) ≡ opensTo p list left w i
+        (z : OpensType s (d .near .bounds) (d .near .places) p list left w i l r) (room : length list ≡ 96) (low : left ≤ 96) where
+      read-then : {u q : Pen} {m : List ℕ} {n : ℕ} (y : TypeRead) → y ≡ readNear s (d .near) i → leaves m (opening.Open u n) ≡ opensTo p list left w i
           → leaves l (typeOpening.Stopped q) ≡ leaves m (readTo u n y) → Writes left list l (page b p) walk (page b q)
       unfolding readTo
       read-then (typeRead.Good d) f g v = absurd (never (sym (ap (λ (a : Leaves TypeOpening). a .answer) v)))
@@ -293,9 +293,9 @@ module _ (s : List ℕ) (d : Lent) (call : Call) where
       unfolding opensTypeTo openedTo
       type-stopped {q} f = by (opensTo p list left w i .answer) (opensTo p list left w i .list) refl (ap (λ (y : TypeOpening). leaves l y) (sym f) ∙ z .is)
         where
-          by : (a : Opening) (m : List ℕ) → leaves m a ≡ opensTo p list left w i → leaves l (typeOpening.Stopped q) ≡ leaves m (openedTo (readTypeIn s (d .bounds) (d .places) i) a)
+          by : (a : Opening) (m : List ℕ) → leaves m a ≡ opensTo p list left w i → leaves l (typeOpening.Stopped q) ≡ leaves m (openedTo (readNear s (d .near) i) a)
               → Writes left list l (page b p) walk (page b q)
-          by (opening.Open u n) m g v = read-then (readTypeIn s (d .bounds) (d .places) i) refl g v
+          by (opening.Open u n) m g v = read-then (readNear s (d .near) i) refl g v
           by (opening.Stopped u) m g v =
               let so : typeOpening.Stopped q ≡ typeOpening.Stopped u = ap (λ (a : Leaves TypeOpening). a .answer) v in
               let same : u ≡ q = cc in
@@ -305,4 +305,4 @@ module _ (s : List ℕ) (d : Lent) (call : Call) where
       pub type-open : {q : Pen} {n : ℕ} {a : TypeData} {m : List ℕ} {g : Page} → r ≡ typeOpening.Open q n a → Writes n l m (page b q) (λ o. ruled c t (holding call o) (k (typeContents s a))) g
           → Writes left list m (page b p) walk g
       type-open {q} {n} {a} f v =
-          opened-then b (k (typeContents s a)) (type-in z room low f .0) (e₁ ∙ rw (read-good (drop left list) i (readTypeIn s (d .bounds) (d .places) i) a refl (type-in z room low f .1))) v
+          opened-then b (k (typeContents s a)) (type-in z room low f .0) (e₁ ∙ rw (read-good (drop left list) i (readNear s (d .near) i) a refl (type-in z room low f .1))) v

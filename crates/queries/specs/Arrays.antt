@@ -3,20 +3,18 @@ use Prim.Native.Nat.{ℕ, zero, suc}
 use mathlib.Core.Path.{_≡_}
 use mathlib.Core.List.{List, [], _∷_}
 use Rattle.streams.specs.declared.refusal.Refusal.{Refusal}
-use Rattle.streams.specs.declared.stream.Stream.{Stream}
 use Rattle.codeview.specs.Record.{typeIndex}
-use Rattle.codeview.specs.Read.{readType}
 use Rattle.codeview.specs.declared.record.TypeData.{TypeData}
 use Rattle.codeview.specs.declared.record.TypeRead.{TypeRead}
 use Rattle.codeview.specs.declared.record.TypeRead.the-variants as typeRead
 use Rattle.interpreter.specs.Trace.{Trace, tr, halted, long, count, prefix, Held}
 use Rattle.rules.specs.Flags.{Settings}
 use Rattle.rules.specs.Record.{Table, typeContents, arrayOr}
+use Rattle.rules.specs.Places.{Near, readNear, beside, tableIn}
 use Rattle.rules.specs.Task.{element, unread}
 use Rattle.rules.specs.Arrays.{baseText}
 use Rattle.rules.specs.Opening.{walked, ruled}
-use Rattle.context.specs.Context.{settingsOf, tableIn, sizesOf, noDimensions, pushedDimension}
-use Rattle.context.specs.declared.flags.Call.{Call}
+use Rattle.context.specs.Context.{sizesOf, noDimensions, pushedDimension}
 use Rattle.context.specs.declared.levels.Dimensions.{Dimensions}
 use Rattle.queries.specs.declared.arrays.ArrayEnd.{ArrayEnd}
 use Rattle.queries.specs.declared.arrays.ArrayEnd.the-variants.{Base, TooLong, Refused}
@@ -32,13 +30,13 @@ behindLevel types (typeRead.Good t) more end = arrayOr (typeContents types t) mo
 behindLevel types (typeRead.Refused f) more end = end (Refused f)
 
 -- The levels from an index on, behind these sizes, where so many levels more may follow.
-unfoldable pub levelsFrom : List ℕ → Stream → ℕ → Dimensions → ℕ → ArrayInfo
-levelsFrom types s zero sizes i = behindLevel types (readType types s i) (λ e bytes. ended sizes i TooLong) (ended sizes i)
-levelsFrom types s (suc n) sizes i = behindLevel types (readType types s i) (λ e bytes. levelsFrom types s n (pushedDimension sizes bytes) e) (ended sizes i)
+unfoldable pub levelsFrom : List ℕ → Near → ℕ → Dimensions → ℕ → ArrayInfo
+levelsFrom types v zero sizes i = behindLevel types (readNear types v i) (λ e bytes. ended sizes i TooLong) (ended sizes i)
+levelsFrom types v (suc n) sizes i = behindLevel types (readNear types v i) (λ e bytes. levelsFrom types v n (pushedDimension sizes bytes) e) (ended sizes i)
 
 -- The levels of an array with this element and byte size, which is the first of the 32 that there may be.
-unfoldable pub arrayInfo : List ℕ → Stream → ℕ → ℕ → ArrayInfo
-arrayInfo types s e size = levelsFrom types s 31 (pushedDimension noDimensions size) e
+unfoldable pub arrayInfo : List ℕ → Near → ℕ → ℕ → ArrayInfo
+arrayInfo types v e size = levelsFrom types v 31 (pushedDimension noDimensions size) e
 
 -- What a type counts in the measure of the writers that call one another: an array one, any other type none.
 unfoldable pub arrayed : TypeData → ℕ
@@ -58,10 +56,10 @@ endTrace c t h types sizes base (Refused f) = ruled c t h (unread f)
 
 -- What `get_array_info` gives of an array's element: which value, the whole of it; and what follows: how many records were taken up, one for each level; that
 -- with these the end is the element's trace; and that the base is no array.
-pub record Info (types : List ℕ) (call : Call) (e size : ℕ) (r : ArrayInfo) : Type 0 where
-  pub whole : r ≡ arrayInfo types (call .types) e size
+pub record Info (types : List ℕ) (v : Near) (e size : ℕ) (r : ArrayInfo) : Type 0 where
+  pub whole : r ≡ arrayInfo types v e size
   pub taken : ℕ
-  pub is : (ids : List ℕ) (h : Held)
-      → prefix [] [] (count 0 taken) (endTrace (settingsOf call) (tableIn types ids call) h types (sizesOf (r .sizes)) (r .base .0) (r .end))
-      ≡ walked (settingsOf call) (tableIn types ids call) h (element e (size ∷ []))
+  pub is : (c : Settings) (ids : List ℕ) (h : Held)
+      → prefix [] [] (count 0 taken) (endTrace c (tableIn types (beside ids v)) h types (sizesOf (r .sizes)) (r .base .0) (r .end))
+      ≡ walked c (tableIn types (beside ids v)) h (element e (size ∷ []))
   pub flat : endArrayed (r .end) ≡ 0

@@ -1,10 +1,10 @@
 // The levels of an array: the byte size of each, and what the innermost holds.
+ghost use Rattle.rules.specs.Places.{near};
 ghost use Rattle.queries.specs.Arrays.{Info};
 use codeview::index::TypeIndex;
 use codeview::record::TypeData;
 use codeview::record::TypeRead;
 use codeview::types::type_at;
-use context::flags::Call;
 use context::levels::Dimensions;
 use context::levels::no_dimensions;
 use context::levels::push_dimension;
@@ -26,14 +26,19 @@ pub struct ArrayInfo {
 }
 
 // One loop and no recursion, so that the stack stays small.
-pub fn get_array_info(types: &[u8], call: Call, element: TypeIndex, size: u64) -> ArrayInfo
-    ensures { λ r. ⌜ Info (now (types .entry)) call (element .0) size r ⌝ }
+pub fn get_array_info(
+    types: &[u8],
+    bounds: &[u32],
+    places: &[u32],
+    element: TypeIndex,
+    size: u64,
+) -> ArrayInfo
+    ensures { λ r. ⌜ Info (now (types .entry)) (near (now (bounds .entry)) (now (places .entry))) (element .0) size r ⌝ }
 {
-    let stream = call.types;
     let mut sizes = push_dimension(no_dimensions(), size);
     let mut base = element;
     loop {
-        match type_at(types, stream, base) {
+        match type_at(types, bounds, places, base) {
             TypeRead::Good(t) => {
                 let TypeData::Array(a) = t else {
                     let end = ArrayEnd::Base(t);

@@ -1,19 +1,30 @@
-// The size of a forward reference: that of the first full record after it with its name. One pass over the heads of the records.
+// The size of a forward reference: that of the first full record after it with its name. One pass over the heads of the records, from place to place.
 ghost use mathlib.Core.Path.{_≡_};
-ghost use Prim.Native.Nat.{max};
+ghost use Prim.Native.Nat.{_+_, _≤_, _<_, min, max};
+ghost use Rattle.streams.specs.Places.{servesUntil};
 ghost use Rattle.rules.specs.Text.{sameBytes};
 ghost use Rattle.rules.specs.Record.{matchName};
-ghost use Rattle.queries.specs.Sizes.{FullLayout, FullOf, FullData, FullSize};
+ghost use Rattle.rules.specs.Places.{near};
+ghost use Rattle.queries.specs.Sizes.{FullLayout, FullOf, FullData, FullSize, FullBetween};
 use codeview::index::TypeIndex;
 use codeview::record::TypeData;
 use codeview::record::TypeRead;
 use codeview::record::UniqueName;
 use codeview::types::type_in;
 use leaf_writers::names::name_of;
+use streams::bounds::layout_in;
+use streams::bounds::places_in;
+use streams::bounds::stream_in;
+use streams::places::Layout;
+use streams::places::serves_until;
+use streams::places::start_of;
+use streams::places::wide;
+use streams::refusal::StreamKind;
+use streams::stream::Cursor;
 use streams::stream::CursorRead;
 use streams::stream::Stream;
-use streams::stream::cursor_at;
 use streams::stream::next_cursor;
+use streams::stream::walk_from;
 use wire::name::Name;
 
 // What a record says of a forward reference: its size, or nothing.
@@ -96,31 +107,78 @@ fn later(a: u32, b: u32) -> u32
     if a < b { b } else { a }
 }
 
+fn sooner(a: usize, b: usize) -> usize
+    ensures { λ r. ⌜ r ≡ min a b ⌝ }
+{
+    if a < b { a } else { b }
+}
+
+// Up to which index the scan goes on from the start of one, which is the next at least.
+fn stretch_end(l: Layout, stream: Stream, at: u32) -> u32
+    requires { ⌜ at < stream .end ⌝ }
+    ensures { λ r. ⌜ r ≡ min (max (servesUntil l stream at) (at + 1)) (stream .end) ⌝ }
+{
+    let end = stream.end;
+    let until = sooner(serves_until(l, stream, at), wide(end));
+    later(until as u32, at + 1)
+}
+
+// What the records from an index up to another say, walked to from a start.
+fn full_between(
+    types: &[u8],
+    stream: Stream,
+    from: Cursor,
+    start: u32,
+    stop: u32,
+    name: &[u8],
+) -> FullRead
+    requires { ⌜ (0x1000 ≤ start) × (from .index ≤ start) ⌝ }
+    ensures { λ r. ⌜ FullBetween (now (types .entry)) stream from start stop (now (name .entry)) r ⌝ }
+{
+    let mut at = walk_from(types, stream, from, start);
+    loop {
+        let CursorRead::At(c) = at else {
+            return FullRead::Other;
+        };
+        if stop <= c.index {
+            return FullRead::Other;
+        }
+        let t = type_in(types, stream, c.at, TypeIndex(c.index));
+        if let FullRead::Full(size) = full_read(types, t, name) {
+            return FullRead::Full(size);
+        }
+        at = next_cursor(types, stream, c);
+    }
+}
+
 // The forward reference at an index, with its name and its own size. No index below 0x1000 or the stream's first is a record.
 pub fn get_size_for_forward_reference(
     types: &[u8],
-    stream: Stream,
+    bounds: &[u32],
+    places: &[u32],
     index: TypeIndex,
     name: &[u8],
     own: u64,
 ) -> u64
-    ensures { λ r. ⌜ FullSize (now (types .entry)) stream (index .0) (now (name .entry)) own r ⌝ }
+    ensures { λ r. ⌜ FullSize (now (types .entry)) (near (now (bounds .entry)) (now (places .entry))) (index .0) (now (name .entry)) own r ⌝ }
 {
+    let stream = stream_in(bounds, StreamKind::Types);
+    let l = layout_in(bounds, StreamKind::Types);
+    let by = places_in(bounds, places, StreamKind::Types);
     let i = index.0;
-    let first = stream.first;
-    if stream.end <= i {
+    let end = stream.end;
+    if end <= i {
         return own;
     }
-    let start = later(later(i + 1, 0x1000), first);
-    let mut at = cursor_at(types, stream, start);
-    loop {
-        let CursorRead::At(c) = at else {
-            return own;
-        };
-        let t = type_in(types, stream, c.at, TypeIndex(c.index));
-        if let FullRead::Full(size) = full_read(types, t, name) {
+    let first = stream.first;
+    let mut at = later(later(i + 1, 0x1000), first);
+    while at < end {
+        let from = start_of(by, l, stream, at);
+        let stop = stretch_end(l, stream, at);
+        if let FullRead::Full(size) = full_between(types, stream, from, at, stop, name) {
             return size;
         }
-        at = next_cursor(types, stream, c);
+        at = stop;
     }
+    own
 }

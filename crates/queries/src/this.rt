@@ -1,14 +1,13 @@
 // The this pointer of a method: whether it is one to the method's class.
 ghost use mathlib.Core.Path.{_≡_};
 ghost use Rattle.rules.specs.Record.{typeAsRead};
-ghost use Rattle.codeview.specs.Read.{readType};
+ghost use Rattle.codeview.specs.Read.{readTypeIn};
 ghost use Rattle.queries.specs.This.{pointeeOf, thisOf};
 use codeview::index::TypeIndex;
 use codeview::record::TypeData;
 use codeview::record::TypeRead;
 use codeview::types::type_at;
 use streams::refusal::Refusal;
-use streams::stream::Stream;
 
 // What a this pointer is: one to the given class (and whether the class is const), another type, or one that could not be read.
 pub enum ThisRead {
@@ -18,13 +17,19 @@ pub enum ThisRead {
 }
 
 // What is pointed to: the class, or a modifier of it.
-fn of_pointee(types: &[u8], stream: Stream, pointee: TypeIndex, class: TypeIndex) -> ThisRead
-    ensures { λ r. ⌜ r ≡ pointeeOf (λ i. typeAsRead (now (types .entry)) (readType (now (types .entry)) stream i)) (pointee .0) (class .0) ⌝ }
+fn of_pointee(
+    types: &[u8],
+    bounds: &[u32],
+    places: &[u32],
+    pointee: TypeIndex,
+    class: TypeIndex,
+) -> ThisRead
+    ensures { λ r. ⌜ r ≡ pointeeOf (λ i. typeAsRead (now (types .entry)) (readTypeIn (now (types .entry)) (now (bounds .entry)) (now (places .entry)) i)) (pointee .0) (class .0) ⌝ }
 {
     if pointee.0 == class.0 {
         return ThisRead::Given(false);
     }
-    match type_at(types, stream, pointee) {
+    match type_at(types, bounds, places, pointee) {
         TypeRead::Good(t) => {
             let TypeData::Modifier(m) = t else {
                 return ThisRead::Other;
@@ -39,19 +44,25 @@ fn of_pointee(types: &[u8], stream: Stream, pointee: TypeIndex, class: TypeIndex
 }
 
 // Index 0 is no this pointer: the method is static.
-pub fn check_ptr_class(types: &[u8], stream: Stream, this: TypeIndex, class: TypeIndex) -> ThisRead
-    ensures { λ r. ⌜ r ≡ thisOf (λ i. typeAsRead (now (types .entry)) (readType (now (types .entry)) stream i)) (this .0) (class .0) ⌝ }
+pub fn check_ptr_class(
+    types: &[u8],
+    bounds: &[u32],
+    places: &[u32],
+    this: TypeIndex,
+    class: TypeIndex,
+) -> ThisRead
+    ensures { λ r. ⌜ r ≡ thisOf (λ i. typeAsRead (now (types .entry)) (readTypeIn (now (types .entry)) (now (bounds .entry)) (now (places .entry)) i)) (this .0) (class .0) ⌝ }
 {
     if this.0 == 0 {
         return ThisRead::Given(false);
     }
-    match type_at(types, stream, this) {
+    match type_at(types, bounds, places, this) {
         TypeRead::Good(t) => {
             let TypeData::Pointer(p) = t else {
                 return ThisRead::Other;
             };
             let pointee = p.underlying;
-            of_pointee(types, stream, pointee, class)
+            of_pointee(types, bounds, places, pointee, class)
         }
         TypeRead::Refused(f) => ThisRead::Refused(f),
     }

@@ -5,7 +5,8 @@ use Rattle.streams.specs.Bounds.{streamIn, layoutIn, placesIn}
 use Rattle.streams.specs.declared.refusal.StreamKind.the-variants.{Types, Ids}
 use Rattle.streams.specs.declared.stream.Stream.{Stream}
 use Rattle.streams.specs.declared.places.Layout.{Layout}
-use Rattle.codeview.specs.Read.{readTypeBy, readIdBy}
+use Rattle.codeview.specs.Read.{readTypeBy, readTypeIn, readIdBy}
+use Rattle.codeview.specs.declared.record.TypeRead.{TypeRead}
 use Rattle.rules.specs.Record.{Table, typeAsRead, idAsRead}
 
 unfoldable pub tableBy : Layout → List ℕ → List ℕ → Stream → Layout → List ℕ → List ℕ → Stream → Table
@@ -16,17 +17,31 @@ tableBy l ps s t m qs d u =
       ids = λ i. idAsRead d (readIdBy m qs d u i);
     }
 
--- What is lent to a call's writers beside the types: the ids, the numbers that the checks found of both streams, and the places of both.
-pub record Lent : Type 0 where
-  pub ids : List ℕ
+-- What a look-up goes by: the numbers that the checks found of both streams, and the places of both.
+pub record Near : Type 0 where
   pub bounds : List ℕ
   pub places : List ℕ
 
+abbrev pub near : List ℕ → List ℕ → Near
+near bounds places = record { bounds = bounds; places = places }
+
+-- What a type index stands for by it.
+abbrev pub readNear : List ℕ → Near → ℕ → TypeRead
+readNear types v i = readTypeIn types (v .bounds) (v .places) i
+
+-- What is lent to a call's writers beside the types: the ids, and what a look-up goes by.
+pub record Lent : Type 0 where
+  pub ids : List ℕ
+  pub near : Near
+
+abbrev pub beside : List ℕ → Near → Lent
+beside ids v = record { ids = ids; near = v }
+
 abbrev pub lent : List ℕ → List ℕ → List ℕ → Lent
-lent ids bounds places = record { ids = ids; bounds = bounds; places = places }
+lent ids bounds places = beside ids (near bounds places)
 
 -- The table that the writers go by.
 unfoldable pub tableIn : List ℕ → Lent → Table
 tableIn types d =
-    tableBy (layoutIn (d .bounds) Types) (placesIn (d .bounds) (d .places) Types) types (streamIn (d .bounds) Types)
-    (layoutIn (d .bounds) Ids) (placesIn (d .bounds) (d .places) Ids) (d .ids) (streamIn (d .bounds) Ids)
+    tableBy (layoutIn (d .near .bounds) Types) (placesIn (d .near .bounds) (d .near .places) Types) types (streamIn (d .near .bounds) Types)
+    (layoutIn (d .near .bounds) Ids) (placesIn (d .near .bounds) (d .near .places) Ids) (d .ids) (streamIn (d .near .bounds) Ids)

@@ -3,16 +3,17 @@
 use borrow.Author.Needs.{needs}
 use Prim.Native.Nat.{_≤_}
 use mathlib.Core.Path.{_≡_, sym, _∙_}
+use Rattle.rules.specs.Places.{near}
 use Rattle.queries.specs.Arrays.{levelsFrom, arrayInfo}
 use Rattle.queries.proofs.ArraysLaws.{info, from-first, from-base, from-unread, from-full, from-more}
 use Rattle.queries.proofs.arrays.get_array_info.Statement.{statement}
 use Rattle.queries.proofs.arrays.get_array_info.Tie as tie
 
 abbrev Inv-loop : tie.InvT-loop
-Inv-loop types size stream sizes₀ base₀ sizes base = (sizes .left ≤ 32) × (levelsFrom types stream (sizes .left) sizes (base .0) ≡ arrayInfo types stream (base₀ .0) size)
+Inv-loop types bounds places size sizes₀ base₀ sizes base = (sizes .left ≤ 32) × (levelsFrom types (near bounds places) (sizes .left) sizes (base .0) ≡ arrayInfo types (near bounds places) (base₀ .0) size)
 
 abbrev μ-loop : tie.MeasureT-loop
-μ-loop types size stream sizes₀ base₀ sizes base = sizes .left
+μ-loop types bounds places size sizes₀ base₀ sizes base = sizes .left
 
 no-dimensions-requires : tie.Need-no-dimensions-requires Inv-loop μ-loop
 no-dimensions-requires c κs = search needs

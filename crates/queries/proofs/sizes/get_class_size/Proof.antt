@@ -9,10 +9,10 @@ get-size-for-forward-reference-requires : tie.Need-get-size-for-forward-referenc
 get-size-for-forward-reference-requires c κs = search needs
 
 returns : tie.Need-returns
-returns c = layout-forward _ _ _ _ _ _ (c .before .before .if1 .taken) (c .get-size-for-forward-reference .ensures)
+returns c = layout-forward _ _ _ _ _ _ _ (c .before .if1 .taken) (c .get-size-for-forward-reference .ensures)
 
 returns-2 : tie.Need-returns-2
-returns-2 c = layout-own _ _ _ _ _ _ (c .if1 .left)
+returns-2 c = layout-own _ _ _ _ _ _ _ (c .if1 .left)
 
 pub get-class-size-spec : {M : Type 1} → statement M
 get-class-size-spec =

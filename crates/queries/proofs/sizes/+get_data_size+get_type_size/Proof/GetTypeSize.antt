@@ -25,22 +25,22 @@ get-primitive-size-requires : (t : ℕ) → lts.Need-get-primitive-size-requires
 get-primitive-size-requires t c κs = search needs
 
 returns : (t : ℕ) → lts.Need-returns (claims t) (get-type-size-at t) get-type-size.Post
-returns t c = sizes-primitive _ _ _ _ (c .before .before .before .before .before .before .before .type-at .ensures) (c .before .before .before .before .before .t .given .1) _ (c .before .before .t2 .given .1) (c .get-primitive-size .ensures)
+returns t c = sizes-primitive _ _ _ _ _ (c .before .before .before .before .before .before .before .type-at .ensures) (c .before .before .before .before .before .t .given .1) _ (c .before .before .t2 .given .1) (c .get-primitive-size .ensures)
 
 returns-2 : (t : ℕ) → lts.Need-returns-2 (claims t) (get-type-size-at t) get-type-size.Post
-returns-2 t c = sizes-long _ _ _ _ (c .before .before .before .before .before .type-at .ensures) (c .before .before .before .t .given .1) (c .before .match2 .keys2) (c .if1 .taken)
+returns-2 t c = sizes-long _ _ _ _ _ (c .before .before .before .before .before .type-at .ensures) (c .before .before .before .t .given .1) (c .before .match2 .keys2) (c .if1 .taken)
 
 get-data-size-requires : (t : ℕ) → lts.Need-get-data-size-requires (claims t) (get-type-size-at t) get-type-size.Post
-get-data-size-requires t c κs = search (c .before .before .before .before .before .before .before .before .pre, c .if1, needs)
+get-data-size-requires t c κs = search (c .before .before .before .before .before .before .before .before .before .pre, c .if1, needs)
 
 enum-told : (t : ℕ) → lts.Need-enum-told (claims t) (get-type-size-at t) get-type-size.Post
 enum-told t c = search needs
 
 returns-3 : (t : ℕ) → lts.Need-returns-3 (claims t) (get-type-size-at t) get-type-size.Post
-returns-3 t c = sizes-data _ _ _ _ (c .before .before .before .before .before .before .type-at .ensures) (c .before .before .before .before .t .given .1) (c .before .before .match2 .keys2) (c .before .if1 .left) (c .get-data-size .ensures)
+returns-3 t c = sizes-data _ _ _ _ _ (c .before .before .before .before .before .before .type-at .ensures) (c .before .before .before .before .t .given .1) (c .before .before .match2 .keys2) (c .before .if1 .left) (c .get-data-size .ensures)
 
 returns-4 : (t : ℕ) → lts.Need-returns-4 (claims t) (get-type-size-at t) get-type-size.Post
-returns-4 t c = sizes-refused _ _ _ _ (c .before .before .type-at .ensures) _ (c .enum-told .given .1)
+returns-4 t c = sizes-refused _ _ _ _ _ (c .before .before .type-at .ensures) _ (c .enum-told .given .1)
 
 pub closed : {M : Type 1} (t : ℕ) → lts.Closed (claims t) (get-type-size-at t) get-type-size.Post M
 closed t = lts.spec (claims t) (get-type-size-at t) get-type-size.Post (type-at-requires t) (enum-known-t t) (enum-known-t-2 t) (get-primitive-size-requires t) (returns t) (returns-2 t) (get-data-size-requires t) (enum-told t) (returns-3 t) (returns-4 t)
