@@ -4,7 +4,7 @@ use mathlib.Core.Path.{_≡_, refl, ap, sym, _∙_}
 use mathlib.Core.List.{List, [], _∷_, _++_}
 use mathlib.Core.Bool.{Bool, true, false, _||_, _&&_, not}
 use lib.Dec.{eqb, leb}
-use lib.ListN.{length, take}
+use lib.ListN.{length}
 use native.Mathlib.Decide.{decLt}
 use native.Mathlib.Numerals.{add-one}
 use native.Mathlib.Omega.{arith}
@@ -90,8 +90,8 @@ use Rattle.context.specs.declared.seen.Way.the-variants as way
 use Rattle.context.specs.declared.seen.TypeOpening.{TypeOpening}
 use Rattle.context.specs.declared.seen.TypeOpening.the-variants as typeOpening
 use Rattle.context.specs.Context.{settingsOf, tableIn, keysOf, holding}
-use Rattle.context.specs.Opening.{OpensType}
-use Rattle.context.proofs.Opening.{walk-on, type-stopped, type-open}
+use Rattle.context.specs.Opening.{OpensType, Writes}
+use Rattle.context.proofs.Opening.{walk-on, type-stopped, type-open, wrote-first}
 use Rattle.leaf_writers.specs.Marks.{markTrace}
 use Rattle.leaf_writers.specs.Fragments.{staticText}
 use Rattle.emit.specs.Walking.{methodOf}
@@ -221,16 +221,16 @@ module _ (s d : List ℕ) (call : Call) where
   function-body (suc i) name n = refl
 
   module _ (i : ℕ) (name : List ℕ) (n : i ≡ 0 → ⊥) {p : Pen} {list l : List ℕ} {r : TypeOpening} (b : List ℕ)
-      (z : OpensType s (call .types) p list [] way.Function i l r) (room : length list ≡ 96) where
+      (z : OpensType s (call .types) p list 96 way.Function i l r) (room : length list ≡ 96) where
     pub function-stopped : {q : Pen} → r ≡ typeOpening.Stopped q → Wrote (page b p) (walked c t h (functionOf i name)) (page b q)
-    function-stopped f = type-stopped s d call [] (functionOf i name) way.Function i (function-entry i name n) (functionText c name) (function-body i name n) b z room f
+    function-stopped f = wrote-first (type-stopped s d call _ 96 (functionOf i name) way.Function i (function-entry i name n) (functionText c name) (function-body i name n) b z room (omega arith) f) room
 
-    pub function-open : {q : Pen} {k : ℕ} {x : TypeData} {j : Page} → r ≡ typeOpening.Open q k x
-        → Wrote (page b q) (ruled c t (holding call (take k l)) (functionText c name (typeContents s x))) j → Wrote (page b p) (walked c t h (functionOf i name)) j
-    function-open f v = type-open s d call [] (functionOf i name) way.Function i (function-entry i name n) (functionText c name) (function-body i name n) b z room f v
+    pub function-open : {q : Pen} {k : ℕ} {x : TypeData} {m : List ℕ} {j : Page} → r ≡ typeOpening.Open q k x
+        → Writes k l m (page b q) (λ o. ruled c t (holding call o) (functionText c name (typeContents s x))) j → Wrote (page b p) (walked c t h (functionOf i name)) j
+    function-open f v = wrote-first (type-open s d call _ 96 (functionOf i name) way.Function i (function-entry i name n) (functionText c name) (function-body i name n) b z room (omega arith) f v) room
 
   -- A member function id, and a function id.
-  module _ (i : ℕ) (name : List ℕ) {p : Pen} {list l : List ℕ} {r : TypeOpening} (b : List ℕ) (z : OpensType s (call .types) p list [] way.Function i l r)
+  module _ (i : ℕ) (name : List ℕ) {p : Pen} {list l : List ℕ} {r : TypeOpening} (b : List ℕ) (z : OpensType s (call .types) p list 96 way.Function i l r)
       (room : length list ≡ 96) where
     module _ (parent : ℕ) where
       member-entry : entryOf c t (memberId parent i name) ≡ opens (key 0 i)
@@ -242,11 +242,11 @@ module _ (s d : List ℕ) (call : Call) where
       member-body = refl
 
       pub member-stopped : {q : Pen} → r ≡ typeOpening.Stopped q → Wrote (page b p) (walked c t h (memberId parent i name)) (page b q)
-      member-stopped f = type-stopped s d call [] (memberId parent i name) way.Function i member-entry (memberIdText c parent i name) member-body b z room f
+      member-stopped f = wrote-first (type-stopped s d call _ 96 (memberId parent i name) way.Function i member-entry (memberIdText c parent i name) member-body b z room (omega arith) f) room
 
-      pub member-open : {q : Pen} {k : ℕ} {x : TypeData} {j : Page} → r ≡ typeOpening.Open q k x
-          → Wrote (page b q) (ruled c t (holding call (take k l)) (memberIdText c parent i name (typeContents s x))) j → Wrote (page b p) (walked c t h (memberId parent i name)) j
-      member-open f v = type-open s d call [] (memberId parent i name) way.Function i member-entry (memberIdText c parent i name) member-body b z room f v
+      pub member-open : {q : Pen} {k : ℕ} {x : TypeData} {m : List ℕ} {j : Page} → r ≡ typeOpening.Open q k x
+          → Writes k l m (page b q) (λ o. ruled c t (holding call o) (memberIdText c parent i name (typeContents s x))) j → Wrote (page b p) (walked c t h (memberId parent i name)) j
+      member-open f v = wrote-first (type-open s d call _ 96 (memberId parent i name) way.Function i member-entry (memberIdText c parent i name) member-body b z room (omega arith) f v) room
 
     module _ (scope : ℕ) where
       function-id-entry : entryOf c t (functionId scope i name) ≡ opens (key 0 i)
@@ -258,11 +258,11 @@ module _ (s d : List ℕ) (call : Call) where
       function-id-body = refl
 
       pub function-id-stopped : {q : Pen} → r ≡ typeOpening.Stopped q → Wrote (page b p) (walked c t h (functionId scope i name)) (page b q)
-      function-id-stopped f = type-stopped s d call [] (functionId scope i name) way.Function i function-id-entry (functionIdText c scope i name) function-id-body b z room f
+      function-id-stopped f = wrote-first (type-stopped s d call _ 96 (functionId scope i name) way.Function i function-id-entry (functionIdText c scope i name) function-id-body b z room (omega arith) f) room
 
-      pub function-id-open : {q : Pen} {k : ℕ} {x : TypeData} {j : Page} → r ≡ typeOpening.Open q k x
-          → Wrote (page b q) (ruled c t (holding call (take k l)) (functionIdText c scope i name (typeContents s x))) j → Wrote (page b p) (walked c t h (functionId scope i name)) j
-      function-id-open f v = type-open s d call [] (functionId scope i name) way.Function i function-id-entry (functionIdText c scope i name) function-id-body b z room f v
+      pub function-id-open : {q : Pen} {k : ℕ} {x : TypeData} {m : List ℕ} {j : Page} → r ≡ typeOpening.Open q k x
+          → Writes k l m (page b q) (λ o. ruled c t (holding call o) (functionIdText c scope i name (typeContents s x))) j → Wrote (page b p) (walked c t h (functionId scope i name)) j
+      function-id-open f v = wrote-first (type-open s d call _ 96 (functionId scope i name) way.Function i function-id-entry (functionIdText c scope i name) function-id-body b z room (omega arith) f v) room
 
   -- An id: it is read, then counted in its chain, and starts a list of its own, so what is open before it does not matter.
   module _ (o : List ℕ) (i : ℕ) (r : IdRead) (e : r ≡ readId d (call .ids) i) where

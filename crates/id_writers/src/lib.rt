@@ -2,7 +2,8 @@
 ghost use mathlib.Core.Path.{_≡_};
 ghost use mathlib.Core.Bool.{false};
 ghost use mathlib.Core.List.{[]};
-ghost use Prim.Native.Nat.{_+_, _<_};
+ghost use Prim.Native.Nat.{_+_, _≤_, _<_};
+ghost use lib.ListN.{length};
 ghost use Rattle.interpreter.specs.Trace.{write};
 ghost use Rattle.rules.specs.Record.{idContents, nameAt};
 ghost use Rattle.rules.specs.Task.{functionOf, idOf, memberId};
@@ -11,6 +12,7 @@ ghost use Rattle.rules.specs.Methods.{methodNamed, procedureNamed};
 ghost use Rattle.rules.specs.Ids.{stringEntries};
 ghost use Rattle.pen.specs.Page.{page, Wrote};
 ghost use Rattle.context.specs.Context.{settingsOf};
+ghost use Rattle.context.specs.Opening.{Writes};
 ghost use Rattle.emit.specs.Walking.{walking, ruling, methodOf, entriesAt};
 ghost use Rattle.id_writers.specs.Ids.{further, procedureEnd, memberNamed, otherText};
 use codeview::ids::id_at;
@@ -69,12 +71,14 @@ fn emit_procedure_end(
     out: &mut [u8],
     p: Pen,
     call: Call,
-    seen: &[u64],
+    seen: &mut [u64],
+    left: usize,
     before: &[u8],
     name: &[u8],
     list: TypeIndex,
 ) -> Pen
-    ensures { λ r. ⌜ Wrote (page (now (out .entry)) p) (ruling (now (types .entry)) (now (ids .entry)) call (now (seen .entry)) (procedureEnd (settingsOf call) (now (before .entry)) (now (name .entry)) (list .0))) (page (now (out .exit)) r) ⌝ }
+    requires { ⌜ (length (now seen) ≡ 96) × (left ≤ 96) ⌝ }
+    ensures { λ r. ⌜ Writes left (now (seen .entry)) (now (seen .exit)) (page (now (out .entry)) p) (λ o. ruling (now (types .entry)) (now (ids .entry)) call o (procedureEnd (settingsOf call) (now (before .entry)) (now (name .entry)) (list .0))) (page (now (out .exit)) r) ⌝ }
 {
     let a = pen::text(out, p, before);
     let b = emit_name_str(out, a, name);
@@ -82,7 +86,7 @@ fn emit_procedure_end(
         return b;
     }
     let c = pen::text(out, b, b"(");
-    let d = emit_type_index(types, ids, out, c, call, seen, list);
+    let d = emit_type_index(types, ids, out, c, call, seen, left, list);
     pen::text(out, d, b")")
 }
 
@@ -93,14 +97,16 @@ fn emit_result(
     out: &mut [u8],
     p: Pen,
     call: Call,
-    seen: &[u64],
+    seen: &mut [u64],
+    left: usize,
     x: ProcedureType,
 ) -> Pen
-    ensures { λ r. ⌜ Wrote (page (now (out .entry)) p) (ruling (now (types .entry)) (now (ids .entry)) call (now (seen .entry)) (returned (settingsOf call) (procedureResult (settingsOf call) (x .constructor) (x .result .0)))) (page (now (out .exit)) r) ⌝ }
+    requires { ⌜ (length (now seen) ≡ 96) × (left ≤ 96) ⌝ }
+    ensures { λ r. ⌜ Writes left (now (seen .entry)) (now (seen .exit)) (page (now (out .entry)) p) (λ o. ruling (now (types .entry)) (now (ids .entry)) call o (returned (settingsOf call) (procedureResult (settingsOf call) (x .constructor) (x .result .0)))) (page (now (out .exit)) r) ⌝ }
 {
     let result = x.result;
     let none = hides_return(call, is_void(x.constructor, result));
-    emit_return_type(types, ids, out, p, call, seen, none, result)
+    emit_return_type(types, ids, out, p, call, seen, left, none, result)
 }
 
 // A procedure by its name.
@@ -110,15 +116,17 @@ fn emit_procedure(
     out: &mut [u8],
     p: Pen,
     call: Call,
-    seen: &[u64],
+    seen: &mut [u64],
+    left: usize,
     name: &[u8],
     x: ProcedureType,
 ) -> Pen
-    ensures { λ r. ⌜ Wrote (page (now (out .entry)) p) (ruling (now (types .entry)) (now (ids .entry)) call (now (seen .entry)) (procedureNamed (settingsOf call) (x .result .0) (x .constructor) (x .arguments .0) (write []) (now (name .entry)))) (page (now (out .exit)) r) ⌝ }
+    requires { ⌜ (length (now seen) ≡ 96) × (left ≤ 96) ⌝ }
+    ensures { λ r. ⌜ Writes left (now (seen .entry)) (now (seen .exit)) (page (now (out .entry)) p) (λ o. ruling (now (types .entry)) (now (ids .entry)) call o (procedureNamed (settingsOf call) (x .result .0) (x .constructor) (x .arguments .0) (write []) (now (name .entry)))) (page (now (out .exit)) r) ⌝ }
 {
     let list = x.arguments;
-    let a = emit_result(types, ids, out, p, call, seen, x);
-    emit_procedure_end(types, ids, out, a, call, seen, b"", name, list)
+    let a = emit_result(types, ids, out, p, call, seen, left, x);
+    emit_procedure_end(types, ids, out, a, call, seen, left, b"", name, list)
 }
 
 // The name and the arguments of a function id.
@@ -128,12 +136,14 @@ fn emit_id_end(
     out: &mut [u8],
     p: Pen,
     call: Call,
-    seen: &[u64],
+    seen: &mut [u64],
+    left: usize,
     before: &[u8],
     f: FunctionId,
     x: ProcedureType,
 ) -> Pen
-    ensures { λ r. ⌜ Wrote (page (now (out .entry)) p) (ruling (now (types .entry)) (now (ids .entry)) call (now (seen .entry)) (procedureEnd (settingsOf call) (now (before .entry)) (nameAt (now (ids .entry)) (f .name)) (x .arguments .0))) (page (now (out .exit)) r) ⌝ }
+    requires { ⌜ (length (now seen) ≡ 96) × (left ≤ 96) ⌝ }
+    ensures { λ r. ⌜ Writes left (now (seen .entry)) (now (seen .exit)) (page (now (out .entry)) p) (λ o. ruling (now (types .entry)) (now (ids .entry)) call o (procedureEnd (settingsOf call) (now (before .entry)) (nameAt (now (ids .entry)) (f .name)) (x .arguments .0))) (page (now (out .exit)) r) ⌝ }
 {
     let list = x.arguments;
     let name = f.name;
@@ -144,6 +154,7 @@ fn emit_id_end(
         p,
         call,
         seen,
+        left,
         before,
         name_of(ids, name),
         list,
@@ -165,18 +176,9 @@ pub fn emit_function(
     if index.0 == 0 {
         return emit_name_str(out, p, name);
     }
-    let none = [0u64; 1];
     let mut list = [0u64; 96];
     let stream = call.types;
-    match open_type(
-        types,
-        stream,
-        p,
-        &mut list,
-        &none[..0],
-        Way::Function,
-        index,
-    ) {
+    match open_type(types, stream, p, &mut list, 96, Way::Function, index) {
         TypeOpening::Open(q, n, t) => match t {
             TypeData::MemberFunction(m) => emit_method(
                 types,
@@ -184,11 +186,22 @@ pub fn emit_function(
                 out,
                 q,
                 call,
-                &list[..n],
+                &mut list,
+                n,
                 name,
                 m,
             ),
-            TypeData::Procedure(x) => emit_procedure(types, ids, out, q, call, &list[..n], name, x),
+            TypeData::Procedure(x) => emit_procedure(
+                types,
+                ids,
+                out,
+                q,
+                call,
+                &mut list,
+                n,
+                name,
+                x,
+            ),
             _ => pen::text(out, q, name),
         },
         TypeOpening::Stopped(q) => q,
@@ -202,19 +215,21 @@ fn emit_method(
     out: &mut [u8],
     p: Pen,
     call: Call,
-    seen: &[u64],
+    seen: &mut [u64],
+    left: usize,
     name: &[u8],
     m: MemberFunctionType,
 ) -> Pen
-    ensures { λ r. ⌜ Wrote (page (now (out .entry)) p) (ruling (now (types .entry)) (now (ids .entry)) call (now (seen .entry)) (methodNamed (settingsOf call) (methodOf m) (write []) (now (name .entry)))) (page (now (out .exit)) r) ⌝ }
+    requires { ⌜ (length (now seen) ≡ 96) × (left ≤ 96) ⌝ }
+    ensures { λ r. ⌜ Writes left (now (seen .entry)) (now (seen .exit)) (page (now (out .entry)) p) (λ o. ruling (now (types .entry)) (now (ids .entry)) call o (methodNamed (settingsOf call) (methodOf m) (write []) (now (name .entry)))) (page (now (out .exit)) r) ⌝ }
 {
     let this = m.this;
     let result = m.result;
     let hidden = hides_return(call, m.constructor);
     let a = maybe_emit_static(out, p, call, this);
-    let b = emit_return_type(types, ids, out, a, call, seen, hidden, result);
+    let b = emit_return_type(types, ids, out, a, call, seen, left, hidden, result);
     let c = emit_name_str(out, b, name);
-    emit_method_args(types, ids, out, c, call, seen, m, true)
+    emit_method_args(types, ids, out, c, call, seen, left, m, true)
 }
 
 // A method by its name and its parent, which is a type.
@@ -224,22 +239,24 @@ fn emit_member(
     out: &mut [u8],
     p: Pen,
     call: Call,
-    seen: &[u64],
+    seen: &mut [u64],
+    left: usize,
     parent: TypeIndex,
     name: &[u8],
     m: MemberFunctionType,
 ) -> Pen
-    ensures { λ r. ⌜ Wrote (page (now (out .entry)) p) (ruling (now (types .entry)) (now (ids .entry)) call (now (seen .entry)) (memberNamed (settingsOf call) (methodOf m) (parent .0) (now (name .entry)))) (page (now (out .exit)) r) ⌝ }
+    requires { ⌜ (length (now seen) ≡ 96) × (left ≤ 96) ⌝ }
+    ensures { λ r. ⌜ Writes left (now (seen .entry)) (now (seen .exit)) (page (now (out .entry)) p) (λ o. ruling (now (types .entry)) (now (ids .entry)) call o (memberNamed (settingsOf call) (methodOf m) (parent .0) (now (name .entry)))) (page (now (out .exit)) r) ⌝ }
 {
     let this = m.this;
     let result = m.result;
     let hidden = hides_return(call, m.constructor);
     let a = maybe_emit_static(out, p, call, this);
-    let b = emit_return_type(types, ids, out, a, call, seen, hidden, result);
-    let c = emit_type_index(types, ids, out, b, call, seen, parent);
+    let b = emit_return_type(types, ids, out, a, call, seen, left, hidden, result);
+    let c = emit_type_index(types, ids, out, b, call, seen, left, parent);
     let d = pen::text(out, c, b"::");
     let e = emit_name_str(out, d, name);
-    emit_method_args(types, ids, out, e, call, seen, m, true)
+    emit_method_args(types, ids, out, e, call, seen, left, m, true)
 }
 
 // A member function id.
@@ -256,18 +273,9 @@ fn emit_member_id(
     let function = d.function;
     let parent = d.parent;
     let name = d.name;
-    let none = [0u64; 1];
     let mut list = [0u64; 96];
     let stream = call.types;
-    match open_type(
-        types,
-        stream,
-        p,
-        &mut list,
-        &none[..0],
-        Way::Function,
-        function,
-    ) {
+    match open_type(types, stream, p, &mut list, 96, Way::Function, function) {
         TypeOpening::Open(q, n, t) => {
             let TypeData::MemberFunction(m) = t else {
                 return pen::refuse(
@@ -277,7 +285,7 @@ fn emit_member_id(
                 );
             };
             let shown = name_of(ids, name);
-            emit_member(types, ids, out, q, call, &list[..n], parent, shown, m)
+            emit_member(types, ids, out, q, call, &mut list, n, parent, shown, m)
         }
         TypeOpening::Stopped(q) => q,
     }
@@ -287,7 +295,7 @@ fn emit_member_id(
 fn emit_string_list(types: &[u8], ids: &[u8], out: &mut [u8], p: Pen, call: Call, e: Entries) -> Pen
     ensures { λ r. ⌜ Wrote (page (now (out .entry)) p) (ruling (now (types .entry)) (now (ids .entry)) call [] (stringEntries (settingsOf call) false (entriesAt (now (ids .entry)) e))) (page (now (out .exit)) r) ⌝ }
 {
-    let none = [0u64; 1];
+    let mut list = [0u64; 96];
     let mut q = p;
     let mut between = false;
     let mut i = 0;
@@ -297,7 +305,7 @@ fn emit_string_list(types: &[u8], ids: &[u8], out: &mut [u8], p: Pen, call: Call
         }
         let c = text_if(out, q, between, b"\" \"");
         let index = TypeIndex(entry_at(ids, e, i));
-        q = emit_type_index(types, ids, out, c, call, &none[..0], index);
+        q = emit_type_index(types, ids, out, c, call, &mut list, 96, index);
         between = true;
         i += 1;
     }
@@ -351,30 +359,21 @@ pub fn emit_id(
                 return emit_other_id(types, ids, out, p, inner, d);
             };
             let function = f.function;
-            let none = [0u64; 1];
             let mut list = [0u64; 96];
             let stream = inner.types;
-            match open_type(
-                types,
-                stream,
-                p,
-                &mut list,
-                &none[..0],
-                Way::Function,
-                function,
-            ) {
+            match open_type(types, stream, p, &mut list, 96, Way::Function, function) {
                 TypeOpening::Open(q, n, t) => {
                     let TypeData::Procedure(x) = t else {
                         let wrong = Refusal::FunctionIdIsNotProcedureType(function.0);
                         return pen::refuse(out, q, wrong);
                     };
                     let scope = f.scope;
-                    let a = emit_result(types, ids, out, q, inner, &list[..n], x);
+                    let a = emit_result(types, ids, out, q, inner, &mut list, n, x);
                     if scope.0 == 0 {
-                        return emit_id_end(types, ids, out, a, inner, &list[..n], b"", f, x);
+                        return emit_id_end(types, ids, out, a, inner, &mut list, n, b"", f, x);
                     }
                     let b = emit_id(types, ids, out, a, inner, allowance - 1, scope);
-                    emit_id_end(types, ids, out, b, inner, &list[..n], b"::", f, x)
+                    emit_id_end(types, ids, out, b, inner, &mut list, n, b"::", f, x)
                 }
                 TypeOpening::Stopped(q) => q,
             }

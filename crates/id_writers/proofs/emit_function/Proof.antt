@@ -1,9 +1,9 @@
 -- Each case of the function's type is one of the rule's.
 -- Assumes nothing.
 use borrow.Author.Needs.{needs}
+use native.Mathlib.Omega.{arith}
 use Rattle.pen.proofs.Laws.{_▸_, wrote-by, wrote-step, wrote-length}
-use Rattle.context.proofs.Opening.{type-in}
-use Rattle.emit.proofs.Laws.{in-lent, in-fits}
+use Rattle.context.proofs.Opening.{type-in, plain, writes-by, writes-length}
 use Rattle.id_writers.proofs.Laws.{function-zero, function-open, function-stopped, function-method, function-procedure, function-other}
 use Rattle.id_writers.proofs.emit_function.Statement.{statement}
 use Rattle.id_writers.proofs.emit_function.Tie as tie
@@ -20,12 +20,6 @@ returns c = wrote-by (wrote-step ▸ c .before .before .emit-name-str .ensures) 
 slice-aggregate-open-type : tie.Need-slice-aggregate-open-type
 slice-aggregate-open-type c = search needs
 
-array-share-prefix-none : tie.Need-array-share-prefix-none
-array-share-prefix-none c = search needs
-
-slice-aggregate-open-type-2 : tie.Need-slice-aggregate-open-type-2
-slice-aggregate-open-type-2 c = search needs
-
 open-type-requires : tie.Need-open-type-requires
 open-type-requires c κs = search needs
 
@@ -35,26 +29,20 @@ enum-known-q c = search needs
 enum-known-t : tie.Need-enum-known-t
 enum-known-t c = search needs
 
-array-share-prefix-list : tie.Need-array-share-prefix-list
-array-share-prefix-list c = in-fits (type-in (c .before .before .before .before .before .before .before .before .open-type .ensures) (search needs) (c .before .before .before .before .before .q .given .1) .0)
-
 slice-aggregate-emit-method : tie.Need-slice-aggregate-emit-method
-slice-aggregate-emit-method c = in-lent (type-in (c .before .before .before .before .before .before .before .before .before .open-type .ensures) (search needs) (c .before .before .before .before .before .before .q .given .1) .0)
+slice-aggregate-emit-method c = search needs
 
 emit-method-requires : tie.Need-emit-method-requires
-emit-method-requires c κs = search needs
+emit-method-requires c κs = (c .before .before .before .before .before .before .before .before .list2 .given, omega (arith, type-in (c .before .before .before .before .before .before .before .before .before .open-type .ensures) (search needs) (omega arith) (c .before .before .before .before .before .before .q .given .1) .0 .next))
 
 enum-known-t-2 : tie.Need-enum-known-t-2
 enum-known-t-2 c = search needs
 
-array-share-prefix-list-2 : tie.Need-array-share-prefix-list-2
-array-share-prefix-list-2 c = in-fits (type-in (c .before .before .before .before .before .before .before .before .open-type .ensures) (search needs) (c .before .before .before .before .before .q .given .1) .0)
-
 slice-aggregate-emit-procedure : tie.Need-slice-aggregate-emit-procedure
-slice-aggregate-emit-procedure c = in-lent (type-in (c .before .before .before .before .before .before .before .before .before .open-type .ensures) (search needs) (c .before .before .before .before .before .before .q .given .1) .0)
+slice-aggregate-emit-procedure c = search needs
 
 emit-procedure-requires : tie.Need-emit-procedure-requires
-emit-procedure-requires c κs = search needs
+emit-procedure-requires c κs = (c .before .before .before .before .before .before .before .before .list2 .given, omega (arith, type-in (c .before .before .before .before .before .before .before .before .before .open-type .ensures) (search needs) (omega arith) (c .before .before .before .before .before .before .q .given .1) .0 .next))
 
 text-requires : tie.Need-text-requires
 text-requires c κs = search needs
@@ -63,25 +51,25 @@ enum-known-q-2 : tie.Need-enum-known-q-2
 enum-known-q-2 c = search needs
 
 same-length-2 : tie.Need-same-length-2
-same-length-2 c = wrote-length (c .before .before .emit-method .ensures)
+same-length-2 c = writes-length (c .before .before .before .emit-method .ensures)
 
 returns-2 : tie.Need-returns-2
-returns-2 c = function-open _ _ _ _ _ (c .before .before .before .before .before .before .before .before .before .before .before .before .before .before .before .before .if1 .left) _ (c .before .before .before .before .before .before .before .before .before .before .before .before .open-type .ensures) (search needs) (c .before .before .before .before .before .before .before .before .before .q .given .1) (wrote-by (c .before .before .emit-method .ensures) (function-method _ _ _ _ _ _ _ (c .before .before .before .before .before .before .t .given .1)))
+returns-2 c = function-open _ _ _ _ _ (c .before .before .before .before .before .before .before .before .before .before .before .before .before .before .before .before .if1 .left) _ (c .before .before .before .before .before .before .before .before .before .before .before .before .before .open-type .ensures) (search needs) (c .before .before .before .before .before .before .before .before .before .before .q .given .1) (writes-by (c .before .before .before .emit-method .ensures) (function-method _ _ _ _ _ _ _ (c .before .before .before .before .before .before .before .t .given .1)))
 
 same-length-3 : tie.Need-same-length-3
-same-length-3 c = wrote-length (c .before .before .emit-procedure .ensures)
+same-length-3 c = writes-length (c .before .before .before .emit-procedure .ensures)
 
 returns-3 : tie.Need-returns-3
-returns-3 c = function-open _ _ _ _ _ (c .before .before .before .before .before .before .before .before .before .before .before .before .before .before .before .before .if1 .left) _ (c .before .before .before .before .before .before .before .before .before .before .before .before .open-type .ensures) (search needs) (c .before .before .before .before .before .before .before .before .before .q .given .1) (wrote-by (c .before .before .emit-procedure .ensures) (function-procedure _ _ _ _ _ _ _ (c .before .before .before .before .before .before .t2 .given .1)))
+returns-3 c = function-open _ _ _ _ _ (c .before .before .before .before .before .before .before .before .before .before .before .before .before .before .before .before .if1 .left) _ (c .before .before .before .before .before .before .before .before .before .before .before .before .before .open-type .ensures) (search needs) (c .before .before .before .before .before .before .before .before .before .before .q .given .1) (writes-by (c .before .before .before .emit-procedure .ensures) (function-procedure _ _ _ _ _ _ _ (c .before .before .before .before .before .before .before .t2 .given .1)))
 
 same-length-4 : tie.Need-same-length-4
 same-length-4 c = wrote-length (c .before .before .text .ensures)
 
 returns-4 : tie.Need-returns-4
-returns-4 c = function-open _ _ _ _ _ (c .before .before .before .before .before .before .before .before .before .before .before .before .before .if1 .left) _ (c .before .before .before .before .before .before .before .before .before .open-type .ensures) (search needs) (c .before .before .before .before .before .before .q .given .1) (wrote-by (c .before .before .text .ensures) (function-other _ _ _ _ _ _ (c .before .before .before .before .match2 .keys3)))
+returns-4 c = function-open _ _ _ _ _ (c .before .before .before .before .before .before .before .before .before .before .before .before .if1 .left) _ (c .before .before .before .before .before .before .before .before .before .open-type .ensures) (search needs) (c .before .before .before .before .before .before .q .given .1) (writes-by (plain (c .before .before .text .ensures)) (function-other _ _ _ _ _ _ (c .before .before .before .before .match2 .keys3)))
 
 returns-5 : tie.Need-returns-5
-returns-5 c = function-stopped _ _ _ _ _ (c .before .before .before .before .before .before .before .before .if1 .left) _ (c .before .before .before .before .open-type .ensures) (search needs) (c .before .q2 .given .1)
+returns-5 c = function-stopped _ _ _ _ _ (c .before .before .before .before .before .before .before .if1 .left) _ (c .before .before .before .before .open-type .ensures) (search needs) (c .before .q2 .given .1)
 
 pub emit-function-spec : {M : Type 1} → statement M
 emit-function-spec =
@@ -91,16 +79,12 @@ emit-function-spec =
     same-length
     returns
     slice-aggregate-open-type
-    array-share-prefix-none
-    slice-aggregate-open-type-2
     open-type-requires
     enum-known-q
     enum-known-t
-    array-share-prefix-list
     slice-aggregate-emit-method
     emit-method-requires
     enum-known-t-2
-    array-share-prefix-list-2
     slice-aggregate-emit-procedure
     emit-procedure-requires
     text-requires

@@ -1,7 +1,7 @@
 -- The name's bytes are those of the record.
 -- Assumes nothing.
 use borrow.Author.Needs.{needs}
-use Rattle.pen.proofs.Laws.{wrote-by}
+use Rattle.context.proofs.Opening.{writes-by}
 use Rattle.id_writers.proofs.Laws.{end-named}
 use Rattle.id_writers.proofs.emit_id_end.Statement.{statement}
 use Rattle.id_writers.proofs.emit_id_end.Tie as tie
@@ -19,9 +19,13 @@ emit-procedure-end-requires c κs = search needs
 same-length : tie.Need-same-length
 same-length c = search needs
 
+same-length-2 : tie.Need-same-length-2
+same-length-2 c = c .before .seen .given
+
 returns : tie.Need-returns
-returns c = wrote-by (c .before .before .emit-procedure-end .ensures) (end-named _ _ _ _ _ _ _ (c .before .before .before .name-of .ensures))
+returns c = writes-by (c .before .before .before .before .emit-procedure-end .ensures) (end-named _ _ _ _ _ _ _ (c .before .before .before .before .before .name-of .ensures))
 
 pub emit-id-end-spec : {M : Type 1} → statement M
 emit-id-end-spec =
-    tie.close (tie.spec name-of-requires emit-procedure-end-requires same-length returns)
+    tie.close
+    (tie.spec name-of-requires emit-procedure-end-requires same-length same-length-2 returns)

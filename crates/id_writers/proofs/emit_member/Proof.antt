@@ -1,7 +1,8 @@
 -- The parts one after another, as the rule has them.
 -- Assumes nothing.
 use borrow.Author.Needs.{needs}
-use Rattle.pen.proofs.Laws.{_▸_, wrote-by, wrote-length}
+use mathlib.Core.Path.{_∙_}
+use Rattle.context.proofs.Opening.{plain, _▸▸_, writes-by, writes-length}
 use Rattle.emit.specs.Walking.{methodOf}
 use Rattle.id_writers.proofs.Laws.{member-named}
 use Rattle.id_writers.proofs.emit_member.Statement.{statement}
@@ -38,13 +39,16 @@ emit-name-str-requires : tie.Need-emit-name-str-requires
 emit-name-str-requires c κs = search needs
 
 emit-method-args-requires : tie.Need-emit-method-args-requires
-emit-method-args-requires c κs = search needs
+emit-method-args-requires c κs = (c .before .before .before .before .before .before .before .before .before .before .before .before .seen2 .given ∙ c .before .before .before .before .before .before .before .before .before .before .before .before .before .before .before .before .before .before .before .seen .given ∙ c .before .before .before .before .before .before .before .before .before .before .before .before .before .before .before .before .before .before .before .before .before .before .before .before .before .before .before .before .before .before .before .before .before .before .before .before .before .pre .0, c .before .before .before .before .before .before .before .before .before .before .before .before .before .before .before .before .before .before .before .before .before .before .before .before .before .before .before .before .before .before .before .before .before .before .before .before .before .pre .1)
 
 same-length : tie.Need-same-length
-same-length c = wrote-length (c .before .before .before .before .before .before .before .before .before .before .before .before .before .before .before .before .before .before .before .before .before .before .before .maybe-emit-static .ensures ▸ c .before .before .before .before .before .before .before .before .before .before .before .before .before .before .before .before .before .before .before .emit-return-type .ensures ▸ c .before .before .before .before .before .before .before .before .before .before .before .before .before .before .before .emit-type-index .ensures ▸ c .before .before .before .before .before .before .before .before .before .before .text .ensures ▸ c .before .before .before .before .before .before .emit-name-str .ensures ▸ c .before .before .emit-method-args .ensures)
+same-length c = writes-length (plain (c .before .before .before .before .before .before .before .before .before .before .before .before .before .before .before .before .before .before .before .before .before .before .before .before .before .before .before .before .before .before .before .before .maybe-emit-static .ensures) ▸▸ c .before .before .before .before .before .before .before .before .before .before .before .before .before .before .before .before .before .before .before .before .before .before .before .before .before .before .before .emit-return-type .ensures ▸▸ c .before .before .before .before .before .before .before .before .before .before .before .before .before .before .before .before .before .before .before .before .emit-type-index .ensures ▸▸ plain (c .before .before .before .before .before .before .before .before .before .before .before .before .before .text .ensures) ▸▸ plain (c .before .before .before .before .before .before .before .before .before .emit-name-str .ensures) ▸▸ c .before .before .before .before .emit-method-args .ensures)
+
+same-length-2 : tie.Need-same-length-2
+same-length-2 c = c .before .seen3 .given ∙ c .before .before .before .before .before .before .before .before .before .before .before .before .before .before .before .before .before .seen2 .given ∙ c .before .before .before .before .before .before .before .before .before .before .before .before .before .before .before .before .before .before .before .before .before .before .before .before .seen .given
 
 returns : tie.Need-returns
-returns c = wrote-by (c .before .before .before .before .before .before .before .before .before .before .before .before .before .before .before .before .before .before .before .before .before .before .before .maybe-emit-static .ensures ▸ c .before .before .before .before .before .before .before .before .before .before .before .before .before .before .before .before .before .before .before .emit-return-type .ensures ▸ c .before .before .before .before .before .before .before .before .before .before .before .before .before .before .before .emit-type-index .ensures ▸ c .before .before .before .before .before .before .before .before .before .before .text .ensures ▸ c .before .before .before .before .before .before .emit-name-str .ensures ▸ c .before .before .emit-method-args .ensures) (member-named _ _ _ (methodOf (c .before .before .before .before .before .before .before .before .before .before .before .before .before .before .before .before .before .before .before .before .before .before .before .before .before .before .before .before .before .before .before .before .before .args .m)) _ _ _ (c .before .before .before .before .before .before .before .before .before .before .before .before .before .before .before .before .before .before .before .before .before .before .before .before .before .hides-return .ensures))
+returns c = writes-by (plain (c .before .before .before .before .before .before .before .before .before .before .before .before .before .before .before .before .before .before .before .before .before .before .before .before .before .before .before .before .before .before .before .before .maybe-emit-static .ensures) ▸▸ c .before .before .before .before .before .before .before .before .before .before .before .before .before .before .before .before .before .before .before .before .before .before .before .before .before .before .before .emit-return-type .ensures ▸▸ c .before .before .before .before .before .before .before .before .before .before .before .before .before .before .before .before .before .before .before .before .emit-type-index .ensures ▸▸ plain (c .before .before .before .before .before .before .before .before .before .before .before .before .before .text .ensures) ▸▸ plain (c .before .before .before .before .before .before .before .before .before .emit-name-str .ensures) ▸▸ c .before .before .before .before .emit-method-args .ensures) (member-named _ _ _ (methodOf (c .before .before .before .before .before .before .before .before .before .before .before .before .before .before .before .before .before .before .before .before .before .before .before .before .before .before .before .before .before .before .before .before .before .before .before .before .before .before .before .before .before .before .args .m)) _ _ _ (c .before .before .before .before .before .before .before .before .before .before .before .before .before .before .before .before .before .before .before .before .before .before .before .before .before .before .before .before .before .before .before .before .before .before .hides-return .ensures))
 
 pub emit-member-spec : {M : Type 1} → statement M
 emit-member-spec =
@@ -59,4 +63,5 @@ emit-member-spec =
     emit-name-str-requires
     emit-method-args-requires
     same-length
+    same-length-2
     returns)

@@ -1,7 +1,8 @@
 -- The parts one after another, as the rule has them.
 -- Assumes nothing.
 use borrow.Author.Needs.{needs}
-use Rattle.pen.proofs.Laws.{_▸_, wrote-by, wrote-length}
+use mathlib.Core.Path.{_∙_}
+use Rattle.context.proofs.Opening.{_▸▸_, writes-by, writes-length}
 use Rattle.id_writers.proofs.Laws.{procedure-named}
 use Rattle.id_writers.proofs.emit_procedure.Statement.{statement}
 use Rattle.id_writers.proofs.emit_procedure.Tie as tie
@@ -17,13 +18,16 @@ slice-aggregate-emit-procedure-end : tie.Need-slice-aggregate-emit-procedure-end
 slice-aggregate-emit-procedure-end c = search needs
 
 emit-procedure-end-requires : tie.Need-emit-procedure-end-requires
-emit-procedure-end-requires c κs = search needs
+emit-procedure-end-requires c κs = (c .before .before .before .before .seen .given ∙ c .before .before .before .before .before .before .before .before .before .before .before .before .before .before .before .before .pre .0, c .before .before .before .before .before .before .before .before .before .before .before .before .before .before .before .before .pre .1)
 
 same-length : tie.Need-same-length
-same-length c = wrote-length (c .before .before .before .before .before .before .before .emit-result .ensures ▸ c .before .before .emit-procedure-end .ensures)
+same-length c = writes-length (c .before .before .before .before .before .before .before .before .before .before .before .before .emit-result .ensures ▸▸ c .before .before .before .before .emit-procedure-end .ensures)
+
+same-length-2 : tie.Need-same-length-2
+same-length-2 c = c .before .seen2 .given ∙ c .before .before .before .before .before .before .before .before .before .seen .given
 
 returns : tie.Need-returns
-returns c = wrote-by (c .before .before .before .before .before .before .before .emit-result .ensures ▸ c .before .before .emit-procedure-end .ensures) (procedure-named _ _ _ (c .before .before .before .before .before .before .before .before .before .before .before .before .before .before .before .args .x .result .0) (c .before .before .before .before .before .before .before .before .before .before .before .before .before .before .before .args .x .arguments .0) (c .before .before .before .before .before .before .before .before .before .before .before .before .before .before .before .args .x .constructor) _ _)
+returns c = writes-by (c .before .before .before .before .before .before .before .before .before .before .before .before .emit-result .ensures ▸▸ c .before .before .before .before .emit-procedure-end .ensures) (procedure-named _ _ _ (c .before .before .before .before .before .before .before .before .before .before .before .before .before .before .before .before .before .before .before .before .before .args .x .result .0) (c .before .before .before .before .before .before .before .before .before .before .before .before .before .before .before .before .before .before .before .before .before .args .x .arguments .0) (c .before .before .before .before .before .before .before .before .before .before .before .before .before .before .before .before .before .before .before .before .before .args .x .constructor) _ _)
 
 pub emit-procedure-spec : {M : Type 1} → statement M
 emit-procedure-spec =
@@ -33,4 +37,5 @@ emit-procedure-spec =
     slice-aggregate-emit-procedure-end
     emit-procedure-end-requires
     same-length
+    same-length-2
     returns)

@@ -1,7 +1,8 @@
 -- The parts one after another, as the rule has them.
 -- Assumes nothing.
 use borrow.Author.Needs.{needs}
-use Rattle.pen.proofs.Laws.{_▸_, wrote-by, wrote-none, wrote-length}
+use Rattle.pen.proofs.Laws.{_▸_, wrote-none, wrote-length}
+use Rattle.context.proofs.Opening.{plain, _▸▸_, writes-by, writes-length}
 use Rattle.id_writers.proofs.Laws.{end-hidden, end-shown}
 use Rattle.id_writers.proofs.emit_procedure_end.Statement.{statement}
 use Rattle.id_writers.proofs.emit_procedure_end.Tie as tie
@@ -25,7 +26,7 @@ same-length : tie.Need-same-length
 same-length c = wrote-length (c .before .before .before .before .before .before .before .before .text .ensures ▸ c .before .before .before .before .emit-name-str .ensures)
 
 returns : tie.Need-returns
-returns c = wrote-by (c .before .before .before .before .before .before .before .before .text .ensures ▸ c .before .before .before .before .emit-name-str .ensures ▸ wrote-none) (end-hidden _ _ _ _ _ _ _ (c .before .no-arguments .ensures) (c .if1 .taken))
+returns c = writes-by (plain (c .before .before .before .before .before .before .before .before .text .ensures) ▸▸ plain (c .before .before .before .before .emit-name-str .ensures) ▸▸ plain wrote-none) (end-hidden _ _ _ _ _ _ _ (c .before .no-arguments .ensures) (c .if1 .taken))
 
 slice-aggregate-text : tie.Need-slice-aggregate-text
 slice-aggregate-text c = search needs
@@ -34,7 +35,7 @@ text-requires-2 : tie.Need-text-requires-2
 text-requires-2 c κs = search needs
 
 emit-type-index-requires : tie.Need-emit-type-index-requires
-emit-type-index-requires c κs = search needs
+emit-type-index-requires c κs = c .before .before .before .before .before .before .before .before .before .before .before .before .before .before .before .before .before .before .before .before .before .before .before .pre
 
 slice-aggregate-text-2 : tie.Need-slice-aggregate-text-2
 slice-aggregate-text-2 c = search needs
@@ -43,10 +44,13 @@ text-requires-3 : tie.Need-text-requires-3
 text-requires-3 c κs = search needs
 
 same-length-2 : tie.Need-same-length-2
-same-length-2 c = wrote-length (c .before .before .before .before .before .before .before .before .before .before .before .before .before .before .before .before .before .before .before .before .before .before .text .ensures ▸ c .before .before .before .before .before .before .before .before .before .before .before .before .before .before .before .before .before .before .emit-name-str .ensures ▸ c .before .before .before .before .before .before .before .before .before .before .before .text2 .ensures ▸ c .before .before .before .before .before .before .before .emit-type-index .ensures ▸ c .before .before .text3 .ensures)
+same-length-2 c = writes-length (plain (c .before .before .before .before .before .before .before .before .before .before .before .before .before .before .before .before .before .before .before .before .before .before .before .before .before .text .ensures) ▸▸ plain (c .before .before .before .before .before .before .before .before .before .before .before .before .before .before .before .before .before .before .before .before .before .emit-name-str .ensures) ▸▸ plain (c .before .before .before .before .before .before .before .before .before .before .before .before .before .before .text2 .ensures) ▸▸ c .before .before .before .before .before .before .before .before .before .emit-type-index .ensures ▸▸ plain (c .before .before .text3 .ensures))
+
+same-length-3 : tie.Need-same-length-3
+same-length-3 c = c .before .before .before .before .before .before .seen .given
 
 returns-2 : tie.Need-returns-2
-returns-2 c = wrote-by (c .before .before .before .before .before .before .before .before .before .before .before .before .before .before .before .before .before .before .before .before .before .before .text .ensures ▸ c .before .before .before .before .before .before .before .before .before .before .before .before .before .before .before .before .before .before .emit-name-str .ensures ▸ c .before .before .before .before .before .before .before .before .before .before .before .text2 .ensures ▸ c .before .before .before .before .before .before .before .emit-type-index .ensures ▸ c .before .before .text3 .ensures) (end-shown _ _ _ _ _ _ _ (c .before .before .before .before .before .before .before .before .before .before .before .before .before .before .before .no-arguments .ensures) (c .before .before .before .before .before .before .before .before .before .before .before .before .before .before .if1 .left))
+returns-2 c = writes-by (plain (c .before .before .before .before .before .before .before .before .before .before .before .before .before .before .before .before .before .before .before .before .before .before .before .before .before .text .ensures) ▸▸ plain (c .before .before .before .before .before .before .before .before .before .before .before .before .before .before .before .before .before .before .before .before .before .emit-name-str .ensures) ▸▸ plain (c .before .before .before .before .before .before .before .before .before .before .before .before .before .before .text2 .ensures) ▸▸ c .before .before .before .before .before .before .before .before .before .emit-type-index .ensures ▸▸ plain (c .before .before .text3 .ensures)) (end-shown _ _ _ _ _ _ _ (c .before .before .before .before .before .before .before .before .before .before .before .before .before .before .before .before .before .before .no-arguments .ensures) (c .before .before .before .before .before .before .before .before .before .before .before .before .before .before .before .before .before .if1 .left))
 
 pub emit-procedure-end-spec : {M : Type 1} → statement M
 emit-procedure-end-spec =
@@ -63,4 +67,5 @@ emit-procedure-end-spec =
     slice-aggregate-text-2
     text-requires-3
     same-length-2
+    same-length-3
     returns-2)

@@ -1,7 +1,7 @@
 -- A result is hidden by the flags or since there is none.
 -- Assumes nothing.
 use borrow.Author.Needs.{needs}
-use Rattle.pen.proofs.Laws.{wrote-by}
+use Rattle.context.proofs.Opening.{writes-by}
 use Rattle.id_writers.proofs.Laws.{result-is}
 use Rattle.id_writers.proofs.emit_result.Statement.{statement}
 use Rattle.id_writers.proofs.emit_result.Tie as tie
@@ -23,10 +23,19 @@ emit-return-type-requires c κs = search needs
 same-length : tie.Need-same-length
 same-length c = search needs
 
+same-length-2 : tie.Need-same-length-2
+same-length-2 c = c .before .seen .given
+
 returns : tie.Need-returns
-returns c = wrote-by (c .before .before .emit-return-type .ensures) (result-is _ _ _ _ _ _ _ (c .before .before .before .before .before .is-void .ensures) (c .before .before .before .before .hides-return .ensures))
+returns c = writes-by (c .before .before .before .before .emit-return-type .ensures) (result-is _ _ _ _ _ _ _ (c .before .before .before .before .before .before .before .before .is-void .ensures) (c .before .before .before .before .before .before .before .hides-return .ensures))
 
 pub emit-result-spec : {M : Type 1} → statement M
 emit-result-spec =
     tie.close
-    (tie.spec is-void-requires hides-return-requires emit-return-type-requires same-length returns)
+    (tie.spec
+    is-void-requires
+    hides-return-requires
+    emit-return-type-requires
+    same-length
+    same-length-2
+    returns)

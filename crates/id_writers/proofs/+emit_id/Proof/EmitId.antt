@@ -4,8 +4,8 @@ use borrow.Author.Needs.{needs}
 use native.Mathlib.Omega.{arith}
 use mathlib.Core.Path.{refl}
 use Rattle.pen.proofs.Laws.{_▸_, wrote-by, wrote-step, wrote-length, wrote-idle}
-use Rattle.context.proofs.Opening.{type-in}
-use Rattle.emit.proofs.Laws.{wrote-later, in-lent, in-fits}
+use Rattle.context.proofs.Opening.{type-in, plain, _▸▸_, writes-by}
+use Rattle.emit.proofs.Laws.{wrote-later}
 use Rattle.id_writers.proofs.Laws.{id-bad, id-long, id-other, id-function, function-id-open, function-id-stopped, function-id-wrong, function-id-alone, function-id-scoped, chained}
 use Rattle.id_writers.proofs.emit_id.Reads as emit-id
 use Rattle.codeview.proofs.ids.id_at.Reads as id-at-reads
@@ -57,12 +57,6 @@ returns-3 t c = wrote-by (wrote-step ▸ c .before .before .emit-other-id .ensur
 slice-aggregate-open-type : (t : ℕ) → lts.Need-slice-aggregate-open-type (claims t) (emit-id-at t) emit-id.Post
 slice-aggregate-open-type t c = search needs
 
-array-share-prefix-none : (t : ℕ) → lts.Need-array-share-prefix-none (claims t) (emit-id-at t) emit-id.Post
-array-share-prefix-none t c = search needs
-
-slice-aggregate-open-type-2 : (t : ℕ) → lts.Need-slice-aggregate-open-type-2 (claims t) (emit-id-at t) emit-id.Post
-slice-aggregate-open-type-2 t c = search needs
-
 open-type-requires : (t : ℕ) → lts.Need-open-type-requires (claims t) (emit-id-at t) emit-id.Post
 open-type-requires t c κs = search needs
 
@@ -76,31 +70,25 @@ refuse-requires : (t : ℕ) → lts.Need-refuse-requires (claims t) (emit-id-at 
 refuse-requires t c κs = search needs
 
 returns-4 : (t : ℕ) → lts.Need-returns-4 (claims t) (emit-id-at t) emit-id.Post
-returns-4 t c = wrote-by (wrote-step ▸ function-id-open _ _ _ _ _ _ (c .before .before .before .before .before .before .before .open-type .ensures) (search needs) _ (c .before .before .before .before .q .given .1) (wrote-by (c .refuse .ensures) (function-id-wrong _ _ _ _ _ _ _ _ (c .before .before .match4 .keys2)))) (id-function _ _ _ _ _ _ _ (c .before .before .before .before .before .before .before .before .before .before .before .before .before .before .before .before .before .before .before .before .id-at .ensures) (c .before .before .before .before .before .before .before .before .before .before .before .before .before .before .before .before .before .before .d .given .1) (omega (arith, c .before .before .before .before .before .before .before .before .before .before .before .before .before .before .before .before .if2 .left, c .before .before .before .before .before .before .before .before .before .before .before .before .before .before .before .before .before .before .before .before .before .before .before .before .before .before .before .pre)) (c .before .before .before .before .before .before .before .before .before .before .before .before .before .before .before .deeper .ensures) _ _ (c .before .before .before .before .before .before .before .before .before .before .before .before .before .d2 .given .1) refl)
-
-array-share-prefix-list : (t : ℕ) → lts.Need-array-share-prefix-list (claims t) (emit-id-at t) emit-id.Post
-array-share-prefix-list t c = in-fits (type-in (c .before .before .before .before .before .before .before .before .before .open-type .ensures) (search needs) (c .before .before .before .before .before .before .q .given .1) .0)
+returns-4 t c = wrote-by (wrote-step ▸ function-id-open _ _ _ _ _ _ (c .before .before .before .before .before .before .before .open-type .ensures) (search needs) _ (c .before .before .before .before .q .given .1) (writes-by (plain (c .refuse .ensures)) (function-id-wrong _ _ _ _ _ _ _ _ (c .before .before .match4 .keys2)))) (id-function _ _ _ _ _ _ _ (c .before .before .before .before .before .before .before .before .before .before .before .before .before .before .before .before .before .before .before .id-at .ensures) (c .before .before .before .before .before .before .before .before .before .before .before .before .before .before .before .before .before .d .given .1) (omega (arith, c .before .before .before .before .before .before .before .before .before .before .before .before .before .before .before .if2 .left, c .before .before .before .before .before .before .before .before .before .before .before .before .before .before .before .before .before .before .before .before .before .before .before .before .before .before .pre)) (c .before .before .before .before .before .before .before .before .before .before .before .before .before .before .deeper .ensures) _ _ (c .before .before .before .before .before .before .before .before .before .before .before .before .d2 .given .1) refl)
 
 slice-aggregate-emit-result : (t : ℕ) → lts.Need-slice-aggregate-emit-result (claims t) (emit-id-at t) emit-id.Post
-slice-aggregate-emit-result t c = in-lent (type-in (c .before .before .before .before .before .before .before .before .before .before .open-type .ensures) (search needs) (c .before .before .before .before .before .before .before .q .given .1) .0)
+slice-aggregate-emit-result t c = search needs
 
 emit-result-requires : (t : ℕ) → lts.Need-emit-result-requires (claims t) (emit-id-at t) emit-id.Post
-emit-result-requires t c κs = search needs
-
-array-share-prefix-list-2 : (t : ℕ) → lts.Need-array-share-prefix-list-2 (claims t) (emit-id-at t) emit-id.Post
-array-share-prefix-list-2 t c = in-fits (type-in (c .before .before .before .before .before .before .before .before .before .before .before .before .before .before .before .before .open-type .ensures) (search needs) (c .before .before .before .before .before .before .before .before .before .before .before .before .before .q .given .1) .0)
+emit-result-requires t c κs = (c .before .before .before .before .before .before .before .before .before .list2 .given, omega (arith, type-in (c .before .before .before .before .before .before .before .before .before .before .open-type .ensures) (search needs) (omega arith) (c .before .before .before .before .before .before .before .q .given .1) .0 .next))
 
 slice-aggregate-emit-id-end : (t : ℕ) → lts.Need-slice-aggregate-emit-id-end (claims t) (emit-id-at t) emit-id.Post
-slice-aggregate-emit-id-end t c = in-lent (type-in (c .before .before .before .before .before .before .before .before .before .before .before .before .before .before .before .before .before .open-type .ensures) (search needs) (c .before .before .before .before .before .before .before .before .before .before .before .before .before .before .q .given .1) .0)
+slice-aggregate-emit-id-end t c = search needs
 
 slice-aggregate-emit-id-end-2 : (t : ℕ) → lts.Need-slice-aggregate-emit-id-end-2 (claims t) (emit-id-at t) emit-id.Post
 slice-aggregate-emit-id-end-2 t c = search needs
 
 emit-id-end-requires : (t : ℕ) → lts.Need-emit-id-end-requires (claims t) (emit-id-at t) emit-id.Post
-emit-id-end-requires t c κs = search needs
+emit-id-end-requires t c κs = (c .before .before .before .before .before .list4 .given, omega (arith, type-in (c .before .before .before .before .before .before .before .before .before .before .before .before .before .before .before .before .before .before .before .open-type .ensures) (search needs) (omega arith) (c .before .before .before .before .before .before .before .before .before .before .before .before .before .before .before .before .q .given .1) .0 .next))
 
 returns-5 : (t : ℕ) → lts.Need-returns-5 (claims t) (emit-id-at t) emit-id.Post
-returns-5 t c = wrote-by (wrote-step ▸ function-id-open _ _ _ _ _ _ (c .before .before .before .before .before .before .before .before .before .before .before .before .before .before .before .before .before .before .before .before .before .open-type .ensures) (search needs) _ (c .before .before .before .before .before .before .before .before .before .before .before .before .before .before .before .before .before .before .q .given .1) (wrote-by (c .before .before .before .before .before .before .before .before .before .before .emit-result .ensures ▸ c .before .before .emit-id-end .ensures) (function-id-alone _ _ _ _ _ _ _ _ _ (c .before .before .before .before .before .before .before .before .before .before .before .before .before .before .before .t .given .1) (c .before .before .before .before .before .before .if3 .taken)))) (id-function _ _ _ _ _ _ _ (c .before .before .before .before .before .before .before .before .before .before .before .before .before .before .before .before .before .before .before .before .before .before .before .before .before .before .before .before .before .before .before .before .before .before .id-at .ensures) (c .before .before .before .before .before .before .before .before .before .before .before .before .before .before .before .before .before .before .before .before .before .before .before .before .before .before .before .before .before .before .before .before .d .given .1) (omega (arith, c .before .before .before .before .before .before .before .before .before .before .before .before .before .before .before .before .before .before .before .before .before .before .before .before .before .before .before .before .before .before .if2 .left, c .before .before .before .before .before .before .before .before .before .before .before .before .before .before .before .before .before .before .before .before .before .before .before .before .before .before .before .before .before .before .before .before .before .before .before .before .before .before .before .before .before .pre)) (c .before .before .before .before .before .before .before .before .before .before .before .before .before .before .before .before .before .before .before .before .before .before .before .before .before .before .before .before .before .deeper .ensures) _ _ (c .before .before .before .before .before .before .before .before .before .before .before .before .before .before .before .before .before .before .before .before .before .before .before .before .before .before .before .d2 .given .1) refl)
+returns-5 t c = wrote-by (wrote-step ▸ function-id-open _ _ _ _ _ _ (c .before .before .before .before .before .before .before .before .before .before .before .before .before .before .before .before .before .before .before .before .before .before .before .open-type .ensures) (search needs) _ (c .before .before .before .before .before .before .before .before .before .before .before .before .before .before .before .before .before .before .before .before .q .given .1) (writes-by (c .before .before .before .before .before .before .before .before .before .before .before .before .emit-result .ensures ▸▸ c .before .before .before .emit-id-end .ensures) (function-id-alone _ _ _ _ _ _ _ _ _ (c .before .before .before .before .before .before .before .before .before .before .before .before .before .before .before .before .before .t .given .1) (c .before .before .before .before .before .before .before .if3 .taken)))) (id-function _ _ _ _ _ _ _ (c .before .before .before .before .before .before .before .before .before .before .before .before .before .before .before .before .before .before .before .before .before .before .before .before .before .before .before .before .before .before .before .before .before .before .before .id-at .ensures) (c .before .before .before .before .before .before .before .before .before .before .before .before .before .before .before .before .before .before .before .before .before .before .before .before .before .before .before .before .before .before .before .before .before .d .given .1) (omega (arith, c .before .before .before .before .before .before .before .before .before .before .before .before .before .before .before .before .before .before .before .before .before .before .before .before .before .before .before .before .before .before .before .if2 .left, c .before .before .before .before .before .before .before .before .before .before .before .before .before .before .before .before .before .before .before .before .before .before .before .before .before .before .before .before .before .before .before .before .before .before .before .before .before .before .before .before .before .before .pre)) (c .before .before .before .before .before .before .before .before .before .before .before .before .before .before .before .before .before .before .before .before .before .before .before .before .before .before .before .before .before .before .deeper .ensures) _ _ (c .before .before .before .before .before .before .before .before .before .before .before .before .before .before .before .before .before .before .before .before .before .before .before .before .before .before .before .before .d2 .given .1) refl)
 
 sub-emit-id : (t : ℕ) → lts.Need-sub-emit-id (claims t) (emit-id-at t) emit-id.Post
 sub-emit-id t c = omega (arith, c .before .before .before .before .before .before .before .before .before .before .before .before .before .before .before .before .before .before .before .before .before .before .before .before .before .if2 .left)
@@ -108,17 +96,14 @@ sub-emit-id t c = omega (arith, c .before .before .before .before .before .befor
 emit-id-requires : (t : ℕ) → lts.Need-emit-id-requires (claims t) (emit-id-at t) emit-id.Post
 emit-id-requires t c κs = (omega (arith, c .before .before .before .before .before .before .before .before .before .before .before .before .before .before .before .before .before .before .before .before .before .before .before .before .before .if2 .left, c .before .before .before .before .before .before .before .before .before .before .before .before .before .before .before .before .before .before .before .before .before .before .before .before .before .before .before .before .before .before .before .before .before .before .before .before .pre), chained _ _ _ (c .before .before .before .before .before .before .before .before .before .before .before .before .before .before .before .before .before .before .before .before .before .before .before .before .deeper .ensures) (omega (arith, c .before .before .before .before .before .before .before .before .before .before .before .before .before .before .before .before .before .before .before .before .before .before .before .before .before .if2 .left, c .before .before .before .before .before .before .before .before .before .before .before .before .before .before .before .before .before .before .before .before .before .before .before .before .before .before .before .before .before .before .before .before .before .before .before .before .pre)))
 
-array-share-prefix-list-3 : (t : ℕ) → lts.Need-array-share-prefix-list-3 (claims t) (emit-id-at t) emit-id.Post
-array-share-prefix-list-3 t c = in-fits (type-in (c .before .before .before .before .before .before .before .before .before .before .before .before .before .before .before .before .before .before .before .before .open-type .ensures) (search needs) (c .before .before .before .before .before .before .before .before .before .before .before .before .before .before .before .before .before .q .given .1) .0)
-
 slice-aggregate-emit-id-end-3 : (t : ℕ) → lts.Need-slice-aggregate-emit-id-end-3 (claims t) (emit-id-at t) emit-id.Post
-slice-aggregate-emit-id-end-3 t c = in-lent (type-in (c .before .before .before .before .before .before .before .before .before .before .before .before .before .before .before .before .before .before .before .before .before .open-type .ensures) (search needs) (c .before .before .before .before .before .before .before .before .before .before .before .before .before .before .before .before .before .before .q .given .1) .0)
+slice-aggregate-emit-id-end-3 t c = search needs
 
 slice-aggregate-emit-id-end-4 : (t : ℕ) → lts.Need-slice-aggregate-emit-id-end-4 (claims t) (emit-id-at t) emit-id.Post
 slice-aggregate-emit-id-end-4 t c = search needs
 
 emit-id-end-requires-2 : (t : ℕ) → lts.Need-emit-id-end-requires-2 (claims t) (emit-id-at t) emit-id.Post
-emit-id-end-requires-2 t c κs = search needs
+emit-id-end-requires-2 t c κs = (c .before .before .before .before .before .before .before .before .before .list4 .given, omega (arith, type-in (c .before .before .before .before .before .before .before .before .before .before .before .before .before .before .before .before .before .before .before .before .before .before .before .open-type .ensures) (search needs) (omega arith) (c .before .before .before .before .before .before .before .before .before .before .before .before .before .before .before .before .before .before .before .before .q .given .1) .0 .next))
 
 enum-known-q-2 : (t : ℕ) → lts.Need-enum-known-q-2 (claims t) (emit-id-at t) emit-id.Post
 enum-known-q-2 t c = search needs
@@ -130,10 +115,10 @@ emit-mark-requires : (t : ℕ) → lts.Need-emit-mark-requires (claims t) (emit-
 emit-mark-requires t c κs = search needs
 
 returns-6 : (t : ℕ) → lts.Need-returns-6 (claims t) (emit-id-at t) emit-id.Post
-returns-6 t c = wrote-by (wrote-step ▸ function-id-open _ _ _ _ _ _ (c .before .before .before .before .before .before .before .before .before .before .before .before .before .before .before .before .before .before .before .before .before .before .before .before .before .open-type .ensures) (search needs) _ (c .before .before .before .before .before .before .before .before .before .before .before .before .before .before .before .before .before .before .before .before .before .before .q .given .1) (wrote-by (c .before .before .before .before .before .before .before .before .before .before .before .before .before .before .emit-result .ensures ▸ c .before .before .before .before .before .before .before .before .emit-id .ensures ▸ c .before .before .emit-id-end2 .ensures) (function-id-scoped _ _ _ _ _ _ _ _ _ (c .before .before .before .before .before .before .before .before .before .before .before .before .before .before .before .before .before .before .before .t .given .1) (c .before .before .before .before .before .before .before .before .before .before .if3 .left)))) (id-function _ _ _ _ _ _ _ (c .before .before .before .before .before .before .before .before .before .before .before .before .before .before .before .before .before .before .before .before .before .before .before .before .before .before .before .before .before .before .before .before .before .before .before .before .before .before .id-at .ensures) (c .before .before .before .before .before .before .before .before .before .before .before .before .before .before .before .before .before .before .before .before .before .before .before .before .before .before .before .before .before .before .before .before .before .before .before .before .d .given .1) (omega (arith, c .before .before .before .before .before .before .before .before .before .before .before .before .before .before .before .before .before .before .before .before .before .before .before .before .before .before .before .before .before .before .before .before .before .before .if2 .left, c .before .before .before .before .before .before .before .before .before .before .before .before .before .before .before .before .before .before .before .before .before .before .before .before .before .before .before .before .before .before .before .before .before .before .before .before .before .before .before .before .before .before .before .before .before .pre)) (c .before .before .before .before .before .before .before .before .before .before .before .before .before .before .before .before .before .before .before .before .before .before .before .before .before .before .before .before .before .before .before .before .before .deeper .ensures) _ _ (c .before .before .before .before .before .before .before .before .before .before .before .before .before .before .before .before .before .before .before .before .before .before .before .before .before .before .before .before .before .before .before .d2 .given .1) refl)
+returns-6 t c = wrote-by (wrote-step ▸ function-id-open _ _ _ _ _ _ (c .before .before .before .before .before .before .before .before .before .before .before .before .before .before .before .before .before .before .before .before .before .before .before .before .before .before .before .open-type .ensures) (search needs) _ (c .before .before .before .before .before .before .before .before .before .before .before .before .before .before .before .before .before .before .before .before .before .before .before .before .q .given .1) (writes-by (c .before .before .before .before .before .before .before .before .before .before .before .before .before .before .before .before .emit-result .ensures ▸▸ plain (c .before .before .before .before .before .before .before .before .before .emit-id .ensures) ▸▸ c .before .before .before .emit-id-end2 .ensures) (function-id-scoped _ _ _ _ _ _ _ _ _ (c .before .before .before .before .before .before .before .before .before .before .before .before .before .before .before .before .before .before .before .before .before .t .given .1) (c .before .before .before .before .before .before .before .before .before .before .before .if3 .left)))) (id-function _ _ _ _ _ _ _ (c .before .before .before .before .before .before .before .before .before .before .before .before .before .before .before .before .before .before .before .before .before .before .before .before .before .before .before .before .before .before .before .before .before .before .before .before .before .before .before .id-at .ensures) (c .before .before .before .before .before .before .before .before .before .before .before .before .before .before .before .before .before .before .before .before .before .before .before .before .before .before .before .before .before .before .before .before .before .before .before .before .before .d .given .1) (omega (arith, c .before .before .before .before .before .before .before .before .before .before .before .before .before .before .before .before .before .before .before .before .before .before .before .before .before .before .before .before .before .before .before .before .before .before .before .if2 .left, c .before .before .before .before .before .before .before .before .before .before .before .before .before .before .before .before .before .before .before .before .before .before .before .before .before .before .before .before .before .before .before .before .before .before .before .before .before .before .before .before .before .before .before .before .before .before .pre)) (c .before .before .before .before .before .before .before .before .before .before .before .before .before .before .before .before .before .before .before .before .before .before .before .before .before .before .before .before .before .before .before .before .before .before .deeper .ensures) _ _ (c .before .before .before .before .before .before .before .before .before .before .before .before .before .before .before .before .before .before .before .before .before .before .before .before .before .before .before .before .before .before .before .before .d2 .given .1) refl)
 
 returns-7 : (t : ℕ) → lts.Need-returns-7 (claims t) (emit-id-at t) emit-id.Post
-returns-7 t c = wrote-by (wrote-step ▸ function-id-stopped _ _ _ _ _ _ (c .before .before .before .before .open-type .ensures) (search needs) _ (c .before .q2 .given .1)) (id-function _ _ _ _ _ _ _ (c .before .before .before .before .before .before .before .before .before .before .before .before .before .before .before .before .before .id-at .ensures) (c .before .before .before .before .before .before .before .before .before .before .before .before .before .before .before .d .given .1) (omega (arith, c .before .before .before .before .before .before .before .before .before .before .before .before .before .if2 .left, c .before .before .before .before .before .before .before .before .before .before .before .before .before .before .before .before .before .before .before .before .before .before .before .before .pre)) (c .before .before .before .before .before .before .before .before .before .before .before .before .deeper .ensures) _ _ (c .before .before .before .before .before .before .before .before .before .before .d2 .given .1) refl)
+returns-7 t c = wrote-by (wrote-step ▸ function-id-stopped _ _ _ _ _ _ (c .before .before .before .before .open-type .ensures) (search needs) _ (c .before .q2 .given .1)) (id-function _ _ _ _ _ _ _ (c .before .before .before .before .before .before .before .before .before .before .before .before .before .before .before .before .id-at .ensures) (c .before .before .before .before .before .before .before .before .before .before .before .before .before .before .d .given .1) (omega (arith, c .before .before .before .before .before .before .before .before .before .before .before .before .if2 .left, c .before .before .before .before .before .before .before .before .before .before .before .before .before .before .before .before .before .before .before .before .before .before .before .pre)) (c .before .before .before .before .before .before .before .before .before .before .before .deeper .ensures) _ _ (c .before .before .before .before .before .before .before .before .before .d2 .given .1) refl)
 
 returns-8 : (t : ℕ) → lts.Need-returns-8 (claims t) (emit-id-at t) emit-id.Post
 returns-8 t c = wrote-by (wrote-step ▸ c .before .before .emit-mark .ensures) (id-bad _ _ _ _ _ _ (c .before .before .before .before .before .before .before .id-at .ensures) _ (c .before .before .before .before .before .f .given .1))
@@ -157,4 +142,4 @@ same-length-6 : (t : ℕ) → lts.Need-same-length-6 (claims t) (emit-id-at t) e
 same-length-6 t c = wrote-length (returns-8 t c)
 
 pub closed : {M : Type 1} (t : ℕ) → lts.Closed (claims t) (emit-id-at t) emit-id.Post M
-closed t = lts.spec (claims t) (emit-id-at t) emit-id.Post (is-idle-requires t) (returns t) (id-at-requires t) (enum-known-d t) (too-long-requires t) (same-length t) (returns-2 t) (deeper-requires t) (enum-known-d-2 t) (emit-other-id-requires t) (same-length-2 t) (returns-3 t) (slice-aggregate-open-type t) (array-share-prefix-none t) (slice-aggregate-open-type-2 t) (open-type-requires t) (enum-known-q t) (enum-known-t t) (refuse-requires t) (same-length-3 t) (returns-4 t) (array-share-prefix-list t) (slice-aggregate-emit-result t) (emit-result-requires t) (array-share-prefix-list-2 t) (slice-aggregate-emit-id-end t) (slice-aggregate-emit-id-end-2 t) (emit-id-end-requires t) (same-length-4 t) (returns-5 t) (sub-emit-id t) (emit-id-requires t) (array-share-prefix-list-3 t) (slice-aggregate-emit-id-end-3 t) (slice-aggregate-emit-id-end-4 t) (emit-id-end-requires-2 t) (enum-known-q-2 t) (enum-known-f t) (emit-mark-requires t) (same-length-5 t) (returns-6 t) (returns-7 t) (same-length-6 t) (returns-8 t)
+closed t = lts.spec (claims t) (emit-id-at t) emit-id.Post (is-idle-requires t) (returns t) (id-at-requires t) (enum-known-d t) (too-long-requires t) (same-length t) (returns-2 t) (deeper-requires t) (enum-known-d-2 t) (emit-other-id-requires t) (same-length-2 t) (returns-3 t) (slice-aggregate-open-type t) (open-type-requires t) (enum-known-q t) (enum-known-t t) (refuse-requires t) (same-length-3 t) (returns-4 t) (slice-aggregate-emit-result t) (emit-result-requires t) (slice-aggregate-emit-id-end t) (slice-aggregate-emit-id-end-2 t) (emit-id-end-requires t) (same-length-4 t) (returns-5 t) (sub-emit-id t) (emit-id-requires t) (slice-aggregate-emit-id-end-3 t) (slice-aggregate-emit-id-end-4 t) (emit-id-end-requires-2 t) (enum-known-q-2 t) (enum-known-f t) (emit-mark-requires t) (same-length-5 t) (returns-6 t) (returns-7 t) (same-length-6 t) (returns-8 t)
