@@ -169,9 +169,9 @@ pub fn type_over(
 {
     match check_call(t, flags, size) {
         Checked::Good(call) => {
-            let none = [0u64; 1];
+            let mut none = [0u64; 96];
             let a = start(out.len());
-            let b = emit_type_index(types, b"", out, a, call, &none[..0], index);
+            let b = emit_type_index(types, b"", out, a, call, &mut none, 96, index);
             close(out, b)
         }
         Checked::Refused(f) => refuse_call(out, f),

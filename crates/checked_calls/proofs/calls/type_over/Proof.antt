@@ -2,6 +2,7 @@
 -- Assumes nothing.
 use borrow.Author.Needs.{needs}
 use mathlib.Core.Path.{_∙_}
+use Rattle.context.proofs.Opening.{wrote-first}
 use Rattle.checked_calls.proofs.CallsLaws.{type-is, type-refused}
 use Rattle.checked_calls.proofs.calls.type_over.Statement.{statement}
 use Rattle.checked_calls.proofs.calls.type_over.Tie as tie
@@ -25,9 +26,6 @@ start-requires c κs = search needs
 slice-aggregate-emit-type-index : tie.Need-slice-aggregate-emit-type-index
 slice-aggregate-emit-type-index c = search needs
 
-array-share-prefix-none : tie.Need-array-share-prefix-none
-array-share-prefix-none c = search needs
-
 slice-aggregate-emit-type-index-2 : tie.Need-slice-aggregate-emit-type-index-2
 slice-aggregate-emit-type-index-2 c = search needs
 
@@ -47,7 +45,7 @@ same-length : tie.Need-same-length
 same-length c = search needs
 
 returns : tie.Need-returns
-returns c = c .before .before .close .ensures ∙ type-is _ _ _ _ (c .before .before .before .before .before .before .before .before .before .before .before .before .before .before .check-call .ensures) _ (c .before .before .before .before .before .before .before .before .before .before .before .before .call .given .1) (c .before .before .before .before .before .before .emit-type-index .ensures) (c .before .before .before .before .before .before .before .before .before .before .start .ensures)
+returns c = c .before .before .close .ensures ∙ type-is _ _ _ _ (c .before .before .before .before .before .before .before .before .before .before .before .before .before .before .before .check-call .ensures) _ (c .before .before .before .before .before .before .before .before .before .before .before .before .before .call .given .1) (wrote-first (c .before .before .before .before .before .before .before .emit-type-index .ensures) (search needs)) (c .before .before .before .before .before .before .before .before .before .before .before .start .ensures)
 
 same-length-2 : tie.Need-same-length-2
 same-length-2 c = search needs
@@ -63,7 +61,6 @@ type-over-spec =
     enum-known-call
     start-requires
     slice-aggregate-emit-type-index
-    array-share-prefix-none
     slice-aggregate-emit-type-index-2
     emit-type-index-requires
     close-requires
