@@ -16,7 +16,6 @@ use Rattle.wire.specs.Text.{bytes}
 use Rattle.streams.specs.Refusal.{numberOf, detailOf}
 use Rattle.streams.specs.declared.refusal.Refusal.{Refusal}
 use Rattle.streams.specs.declared.refusal.Refusal.the-variants.{ArgumentTypeNotArgumentList}
-use Rattle.codeview.specs.Read.{readType}
 use Rattle.codeview.specs.declared.record.PointerMode.{PointerMode}
 use Rattle.codeview.specs.declared.record.PrimitiveType.{PrimitiveType}
 use Rattle.codeview.specs.declared.record.ModifierType.{ModifierType}
@@ -87,9 +86,9 @@ use Rattle.rules.specs.Record.{
   namedOr,
   typeContents,
   typeAsRead,
-  tableOf,
   numbersAt,
 }
+use Rattle.rules.specs.Places.{tableBy, readNear, Lent, tableIn}
 use Rattle.rules.specs.Text.{missingMark, primitiveText, Level, level, levels, overPointee, endsSigned, brackets}
 use Rattle.rules.specs.Task.{Task, byItself, target, targetOfModifier, modified, listOf, element, sizeOf, Rule, inside, texted, unread, marked, valueOf, separated}
 use Rattle.rules.specs.Types.{result, procedureResult, returned, methodArguments, argumentEntries, namedText, typeText, alone}
@@ -107,7 +106,7 @@ use Rattle.context.specs.declared.seen.Opening.{Opening}
 use Rattle.context.specs.declared.seen.Opening.the-variants as opening
 use Rattle.context.specs.declared.seen.TypeOpening.{TypeOpening}
 use Rattle.context.specs.declared.seen.TypeOpening.the-variants as typeOpening
-use Rattle.context.specs.Context.{settingsOf, tableIn, holding, sizesOf}
+use Rattle.context.specs.Context.{settingsOf, holding, sizesOf}
 use Rattle.context.specs.Opening.{wayOf, Opens, OpensType, Writes}
 use Rattle.context.proofs.Opening.{ruled-pick, unread-is, read-good, read-bad, walk-on, open-in, opened-then, stopped-then, type-stopped, type-open, writes-by}
 use Rattle.leaf_writers.specs.Marks.{markTrace}
@@ -310,18 +309,18 @@ module _ (c : Settings) (t : Table) (h : Held) where
   unfolding ruled exec methodText _⨾_
   extra-is m list closes = rw (never-shut closes)
 
-module _ (s d : List ℕ) (call : Call) (o : List ℕ) where
+module _ (s : List ℕ) (d : Lent) (call : Call) (o : List ℕ) where
   abbrev c : Settings
   c = settingsOf call
 
   abbrev t : Table
-  t = tableIn s d call
+  t = tableIn s d
 
   abbrev h : Held
   h = holding call o
 
   -- An index by itself: what cannot be read is its mark.
-  pub self-bad : (i : ℕ) (r : TypeRead) (f : Refusal) → r ≡ readType s (call .types) i → r ≡ Refused f → step ⨾ markTrace f ≡ walked c t h (byItself i)
+  pub self-bad : (i : ℕ) (r : TypeRead) (f : Refusal) → r ≡ readNear s (d .near) i → r ≡ Refused f → step ⨾ markTrace f ≡ walked c t h (byItself i)
   unfolding entryOf body afterRead alone
   self-bad i r f e g =
       let k : t .types i ≡ bad f = read-bad s d call o i r f e g in
@@ -385,9 +384,9 @@ module _ (s d : List ℕ) (call : Call) (o : List ℕ) where
     modified-plain j = rw (modified-other c s n x j)
 
   -- The this pointer decides what follows.
-  module _ (m : Method) (closes : Bool) (list : List ℕ) (r : ThisRead) (e : r ≡ thisOf (λ i. typeAsRead s (readType s (call .types) i)) (m .this) (m .class)) where
+  module _ (m : Method) (closes : Bool) (list : List ℕ) (r : ThisRead) (e : r ≡ thisOf (λ i. typeAsRead s (readNear s (d .near) i)) (m .this) (m .class)) where
     by-this : ruled c t h (byThis r (λ extra constant. methodText c m closes list extra constant)) ≡ ruled c t h (methodList c t m closes (arguments list))
-    unfolding methodList tableIn tableOf
+    unfolding methodList tableIn tableBy
     by-this = rw e (ap (λ (p : Rule). ruled c t h p) (sym (this-is c t m (λ extra constant. methodText c m closes list extra constant))))
 
     pub this-given : (constant shut : Bool) → r ≡ this.Given constant → shut ≡ closes && constant
@@ -462,29 +461,29 @@ module _ (s d : List ℕ) (call : Call) (o : List ℕ) where
   helper-other x ls n = rw (pointed-plain c s ls x n)
 
   -- An array: what its levels end in.
-  module _ (e size : ℕ) (r : ArrayInfo) (n : Info s call e size r) where
+  module _ (e size : ℕ) (r : ArrayInfo) (n : Info s (d .near) e size r) where
     abbrev later : Trace Refusal → Trace Refusal
     later x = prefix [] [] (count 0 (n .taken)) x
 
     pub array-long : r .end ≡ end.TooLong → later (tr [] (halted (long (r .base .0))) [] (count 0 0)) ≡ walked c t h (element e (size ∷ []))
     unfolding endTrace
-    array-long f = rw f at (n .is d h)
+    array-long f = rw f at (n .is c (d .ids) h)
 
     pub array-bad : (a : Refusal) → r .end ≡ end.Refused a → later (unreadTrace a) ≡ walked c t h (element e (size ∷ []))
     unfolding endTrace
-    array-bad a f = ap later (unread-is c t h a) ∙ (rw f at (n .is d h))
+    array-bad a f = ap later (unread-is c t h a) ∙ (rw f at (n .is c (d .ids) h))
 
     base-is : (x : TypeData) → r .end ≡ end.Base x → later (ruled c t h (baseText c t (r .base .0) (sizesOf (r .sizes)) (typeContents s x))) ≡ walked c t h (element e (size ∷ []))
     unfolding endTrace
-    base-is x f = rw f at (n .is d h)
+    base-is x f = rw f at (n .is c (d .ids) h)
 
-    module _ (x : TypeData) (z : SizeRead) (f : r .end ≡ end.Base x) (y : Sizes s call (r .base .0) 0 z) where
+    module _ (x : TypeData) (z : SizeRead) (f : r .end ≡ end.Base x) (y : Sizes s (d .near) call (r .base .0) 0 z) where
       abbrev text : Rule
       text = texted (typeText c (typeContents s x))
 
       sized-is : later (asked (sizeTrace z (y .taken)) (λ v. ruled c t h (seq text (write (brackets (valueOf v) (sizesOf (r .sizes))))))) ≡ walked c t h (element e (size ∷ []))
       unfolding ruled exec baseText
-      sized-is = rw (y .is d h) (base-is x f)
+      sized-is = rw (y .is (d .ids) h) (base-is x f)
 
       pub array-unsized : (i : ℕ) → z ≡ sized.TooLong i → later (prefix [] [] (count 0 (y .taken)) (tr [] (halted (long i)) [] (count 0 0))) ≡ walked c t h (element e (size ∷ []))
       unfolding sizeTrace
@@ -495,15 +494,15 @@ module _ (s d : List ℕ) (call : Call) (o : List ℕ) where
       array-base v g = rw g at sized-is
 
 -- What opens an index in the list that is lent, where those from `left` on are open.
-module _ (s d : List ℕ) (call : Call) (list : List ℕ) (left : ℕ) where
+module _ (s : List ℕ) (d : Lent) (call : Call) (list : List ℕ) (left : ℕ) where
   abbrev c₁ : Settings
   c₁ = settingsOf call
 
   abbrev t₁ : Table
-  t₁ = tableIn s d call
+  t₁ = tableIn s d
 
   -- An index by itself that was read.
-  module _ {r : TypeRead} {x : TypeData} {i : ℕ} (b : List ℕ) (e : r ≡ readType s (call .types) i) (g : r ≡ Good x) {p : Pen} {l : List ℕ} {y : Opening}
+  module _ {r : TypeRead} {x : TypeData} {i : ℕ} (b : List ℕ) (e : r ≡ readNear s (d .near) i) (g : r ≡ Good x) {p : Pen} {l : List ℕ} {y : Opening}
       (z : Opens p list left way.Itself i l y) (room : length list ≡ 96) (low : left ≤ 96) where
     self-entry : entryOf c₁ t₁ (byItself i) ≡ opens (key 1 i)
     unfolding entryOf afterRead
@@ -538,8 +537,8 @@ module _ (s d : List ℕ) (call : Call) (list : List ℕ) (left : ℕ) where
         by true = refl
         by false = refl
 
-    module _ {w : Way} {p : Pen} {l : List ℕ} {r : TypeOpening} (b : List ℕ) (u : w ≡ wayTo m) (z : OpensType s (call .types) p list left w i l r) (room : length list ≡ 96) (low : left ≤ 96) where
-      way-is : OpensType s (call .types) p list left (wayTo m) i l r
+    module _ {w : Way} {p : Pen} {l : List ℕ} {r : TypeOpening} (b : List ℕ) (u : w ≡ wayTo m) (z : OpensType s (d .near .bounds) (d .near .places) p list left w i l r) (room : length list ≡ 96) (low : left ≤ 96) where
+      way-is : OpensType s (d .near .bounds) (d .near .places) p list left (wayTo m) i l r
       way-is = rw u at z
 
       pub aimed-stopped : {q : Pen} → r ≡ typeOpening.Stopped q → Writes left list l (page b p) (λ o. walked c₁ t₁ (holding call o) (aimedAt m i ls)) (page b q)
@@ -550,7 +549,7 @@ module _ (s d : List ℕ) (call : Call) (list : List ℕ) (left : ℕ) where
       aimed-open f v = type-open s d call list left (aimedAt m i ls) (wayTo m) i aimed-entry (aimedRule c₁ m ls) aimed-body b way-is room low f v
 
   -- Any other modifier's target.
-  module _ (i : ℕ) (n : Bool) {p : Pen} {l : List ℕ} {r : TypeOpening} (b : List ℕ) (z : OpensType s (call .types) p list left way.Modified i l r) (room : length list ≡ 96)
+  module _ (i : ℕ) (n : Bool) {p : Pen} {l : List ℕ} {r : TypeOpening} (b : List ℕ) (z : OpensType s (d .near .bounds) (d .near .places) p list left way.Modified i l r) (room : length list ≡ 96)
       (low : left ≤ 96) where
     modified-entry : entryOf c₁ t₁ (modified i n) ≡ opens (key 4 i)
     unfolding entryOf
@@ -578,7 +577,7 @@ module _ (s d : List ℕ) (call : Call) (list : List ℕ) (left : ℕ) where
     list-body = refl
 
     module _ (w : Bool) (e : w ≡ c₁ .noArguments) (g : w ≡ false) {p : Pen} {l : List ℕ} {r : TypeOpening} (b : List ℕ)
-        (z : OpensType s (call .types) p list left way.List (m .list) l r) (room : length list ≡ 96) (low : left ≤ 96) where
+        (z : OpensType s (d .near .bounds) (d .near .places) p list left way.List (m .list) l r) (room : length list ≡ 96) (low : left ≤ 96) where
       pub args-stopped : {q : Pen} → r ≡ typeOpening.Stopped q → Writes left list l (page b p) (λ o. ruled c₁ t₁ (holding call o) (methodArguments c₁ m closes)) (page b q)
       args-stopped f = writes-by (type-stopped s d call list left (listOf m closes) way.List (m .list) list-entry (methodList c₁ t₁ m closes) list-body b z room low f) (args-shown s d call (drop left list) m closes w e g)
 
@@ -636,9 +635,9 @@ unfolding numbersAt
 from-none s e i h = let a : e .count - i ≡ 0 = omega arith in rw a
 
 -- The loop over a list, its entries read from a stream and a text between them: whatever the rest makes of the page, the whole makes of the first page.
-module _ (s d : List ℕ) (call : Call) (o stream sep : List ℕ) (e : Entries) where
+module _ (s : List ℕ) (d : Lent) (call : Call) (o stream sep : List ℕ) (e : Entries) where
   abbrev pub entriesTrace : Bool → List ℕ → Trace Refusal
-  entriesTrace between list = ruled (settingsOf call) (tableIn s d call) (holding call o) (separated sep between list)
+  entriesTrace between list = ruled (settingsOf call) (tableIn s d) (holding call o) (separated sep between list)
 
   pub record Rest (first between : Bool) (i : ℕ) (g h : Page) : Type 0 where
     pub goes : (k : Page) → Wrote g (entriesTrace between (from stream e i)) k → Wrote h (entriesTrace first (numbersAt stream (e .start) (e .count))) k
@@ -648,19 +647,19 @@ module _ (s d : List ℕ) (call : Call) (o stream sep : List ℕ) (e : Entries) 
 
   module _ (first between : Bool) (i : ℕ) (g h : Page) (r : Rest first between i g h) where
     pub rest-next : (a : ℕ) (f m : Page) → i < e .count → a ≡ number 4 stream (e .start + 4 * i) → Wrote g (writing (pick between sep [])) f
-        → Wrote f (walked (settingsOf call) (tableIn s d call) (holding call o) (byItself a)) m → Rest first true (i + 1) m h
+        → Wrote f (walked (settingsOf call) (tableIn s d) (holding call o) (byItself a)) m → Rest first true (i + 1) m h
     rest-next a f m l q v w =
         record {
           goes = λ k z. r .goes k
               (wrote-by (v ▸ w ▸ z)
-              (entries-more (settingsOf call) (tableIn s d call) (holding call o) sep between a (from stream e (i + 1))
+              (entries-more (settingsOf call) (tableIn s d) (holding call o) sep between a (from stream e (i + 1))
               ∙ ap (entriesTrace between) (rw q (sym (from-next stream e i l)))));
         }
 
     pub rest-none : e .count ≤ i → Wrote h (entriesTrace first (numbersAt stream (e .start) (e .count))) g
     rest-none l =
         r .goes g
-        (wrote-same (entries-none (settingsOf call) (tableIn s d call) (holding call o) sep between ∙ ap (entriesTrace between) (sym (from-none stream e i l))))
+        (wrote-same (entries-none (settingsOf call) (tableIn s d) (holding call o) sep between ∙ ap (entriesTrace between) (sym (from-none stream e i l))))
 
     pub rest-idle : idle (g .pen .stop) ≡ true → Wrote h (entriesTrace first (numbersAt stream (e .start) (e .count))) g
     rest-idle l = r .goes g (wrote-idle l)

@@ -8,6 +8,7 @@ use Rattle.codeview.specs.declared.record.MemberFunctionType.{MemberFunctionTyp
 use Rattle.interpreter.specs.Trace.{Trace, after}
 use Rattle.rules.specs.Flags.{Settings}
 use Rattle.rules.specs.Record.{Record, Method, arguments, numbersAt}
+use Rattle.rules.specs.Places.{Lent, tableIn}
 use Rattle.rules.specs.Text.{Level, levels, endsSigned}
 use Rattle.rules.specs.Task.{Task, target, targetOfModifier, Rule, texted}
 use Rattle.rules.specs.Types.{typeText}
@@ -17,13 +18,13 @@ use Rattle.rules.specs.Opening.{walked, ruled}
 use Rattle.context.specs.declared.flags.Call.{Call}
 use Rattle.context.specs.declared.seen.Way.{Way}
 use Rattle.context.specs.declared.seen.Way.the-variants as way
-use Rattle.context.specs.Context.{settingsOf, tableIn, holding}
+use Rattle.context.specs.Context.{settingsOf, holding}
 
-abbrev pub walking : List ℕ → List ℕ → Call → List ℕ → Task → Trace Refusal
-walking types ids call seen x = walked (settingsOf call) (tableIn types ids call) (holding call seen) x
+abbrev pub walking : List ℕ → Lent → Call → List ℕ → Task → Trace Refusal
+walking types d call seen x = walked (settingsOf call) (tableIn types d) (holding call seen) x
 
-abbrev pub ruling : List ℕ → List ℕ → Call → List ℕ → Rule → Trace Refusal
-ruling types ids call seen p = ruled (settingsOf call) (tableIn types ids call) (holding call seen) p
+abbrev pub ruling : List ℕ → Lent → Call → List ℕ → Rule → Trace Refusal
+ruling types d call seen p = ruled (settingsOf call) (tableIn types d) (holding call seen) p
 
 -- A method as the rules see it.
 abbrev pub methodOf : MemberFunctionType → Method
@@ -40,8 +41,8 @@ methodOf m =
 abbrev pub entriesAt : List ℕ → Entries → List ℕ
 entriesAt s e = numbersAt s (e .start) (e .count)
 
-abbrev pub listRule : List ℕ → List ℕ → Call → MemberFunctionType → Bool → Entries → Rule
-listRule types ids call m closes e = methodList (settingsOf call) (tableIn types ids call) (methodOf m) closes (arguments (entriesAt types e))
+abbrev pub listRule : List ℕ → Lent → Call → MemberFunctionType → Bool → Entries → Rule
+listRule types d call m closes e = methodList (settingsOf call) (tableIn types d) (methodOf m) closes (arguments (entriesAt types e))
 
 -- A type that is neither method nor procedure, under the levels of its pointers (the last case of `pointed`).
 abbrev pub plainPointed : Settings → List Level → Record → Rule

@@ -8,6 +8,7 @@ ghost use mathlib.Core.Bool.{false};
 ghost use mathlib.Core.List.{[], _∷_};
 ghost use Rattle.rules.specs.Text.{level};
 ghost use Rattle.rules.specs.Record.{method, procedure, arguments, typeContents};
+ghost use Rattle.rules.specs.Places.{lent};
 ghost use Rattle.rules.specs.Task.{byItself, modified, element, texted};
 ghost use Rattle.rules.specs.Types.{typeText, result, methodArguments, argumentEntries};
 ghost use Rattle.rules.specs.Pointers.{pointed};
@@ -63,6 +64,8 @@ use streams::refusal::Refusal;
 pub fn emit_return_type(
     types: &[u8],
     ids: &[u8],
+    bounds: &[u32],
+    places: &[u32],
     out: &mut [u8],
     p: Pen,
     call: Call,
@@ -72,12 +75,12 @@ pub fn emit_return_type(
     index: TypeIndex,
 ) -> Pen
     requires { ⌜ (length (now seen) ≡ 96) × (left ≤ 96) ⌝ }
-    ensures { λ r. ⌜ Writes left (now (seen .entry)) (now (seen .exit)) (page (now (out .entry)) p) (λ o. ruling (now (types .entry)) (now (ids .entry)) call o (result (settingsOf call) none (index .0))) (page (now (out .exit)) r) ⌝ }
+    ensures { λ r. ⌜ Writes left (now (seen .entry)) (now (seen .exit)) (page (now (out .entry)) p) (λ o. ruling (now (types .entry)) (lent (now (ids .entry)) (now (bounds .entry)) (now (places .entry))) call o (result (settingsOf call) none (index .0))) (page (now (out .exit)) r) ⌝ }
 {
     if none {
         return p;
     }
-    let a = emit_type_index(types, ids, out, p, call, seen, left, index);
+    let a = emit_type_index(types, ids, bounds, places, out, p, call, seen, left, index);
     pen::text(out, a, b" ")
 }
 
@@ -85,6 +88,8 @@ pub fn emit_return_type(
 pub fn emit_method_args(
     types: &[u8],
     ids: &[u8],
+    bounds: &[u32],
+    places: &[u32],
     out: &mut [u8],
     p: Pen,
     call: Call,
@@ -94,19 +99,31 @@ pub fn emit_method_args(
     closes: bool,
 ) -> Pen
     requires { ⌜ (length (now seen) ≡ 96) × (left ≤ 96) ⌝ }
-    ensures { λ r. ⌜ Writes left (now (seen .entry)) (now (seen .exit)) (page (now (out .entry)) p) (λ o. ruling (now (types .entry)) (now (ids .entry)) call o (methodArguments (settingsOf call) (methodOf m) closes)) (page (now (out .exit)) r) ⌝ }
+    ensures { λ r. ⌜ Writes left (now (seen .entry)) (now (seen .exit)) (page (now (out .entry)) p) (λ o. ruling (now (types .entry)) (lent (now (ids .entry)) (now (bounds .entry)) (now (places .entry))) call o (methodArguments (settingsOf call) (methodOf m) closes)) (page (now (out .exit)) r) ⌝ }
 {
     if no_arguments(call) {
         return p;
     }
     let index = m.arguments;
-    let stream = call.types;
-    match open_type(types, stream, p, seen, left, Way::List, index) {
+    match open_type(types, bounds, places, p, seen, left, Way::List, index) {
         TypeOpening::Open(q, n, t) => {
             let TypeData::ArgumentList(e) = t else {
                 return pen::refuse(out, q, Refusal::ArgumentTypeNotArgumentList(index.0));
             };
-            args(types, ids, out, q, call, seen, n, m, e, closes)
+            args(
+                types,
+                ids,
+                bounds,
+                places,
+                out,
+                q,
+                call,
+                seen,
+                n,
+                m,
+                e,
+                closes,
+            )
         }
         TypeOpening::Stopped(q) => q,
     }
@@ -116,6 +133,8 @@ pub fn emit_method_args(
 fn args(
     types: &[u8],
     ids: &[u8],
+    bounds: &[u32],
+    places: &[u32],
     out: &mut [u8],
     p: Pen,
     call: Call,
@@ -126,23 +145,46 @@ fn args(
     closes: bool,
 ) -> Pen
     requires { ⌜ (length (now seen) ≡ 96) × (left ≤ 96) ⌝ }
-    ensures { λ r. ⌜ Writes left (now (seen .entry)) (now (seen .exit)) (page (now (out .entry)) p) (λ o. ruling (now (types .entry)) (now (ids .entry)) call o (listRule (now (types .entry)) (now (ids .entry)) call m closes e)) (page (now (out .exit)) r) ⌝ }
+    ensures { λ r. ⌜ Writes left (now (seen .entry)) (now (seen .exit)) (page (now (out .entry)) p) (λ o. ruling (now (types .entry)) (lent (now (ids .entry)) (now (bounds .entry)) (now (places .entry))) call o (listRule (now (types .entry)) (lent (now (ids .entry)) (now (bounds .entry)) (now (places .entry))) call m closes e)) (page (now (out .exit)) r) ⌝ }
 {
-    let stream = call.types;
     let this = m.this;
     let class = m.class;
-    match check_ptr_class(types, stream, this, class) {
+    match check_ptr_class(types, bounds, places, this, class) {
         ThisRead::Given(constant) => {
             let shut = both(closes, constant);
             let a = pen::text(out, p, b"(");
-            let b = emit_arg_list(types, ids, out, a, call, seen, left, false, e);
+            let b = emit_arg_list(
+                types,
+                ids,
+                bounds,
+                places,
+                out,
+                a,
+                call,
+                seen,
+                left,
+                false,
+                e,
+            );
             let c = pen::text(out, b, b")");
             text_if(out, c, shut, b" const")
         }
         ThisRead::Other => {
             let a = pen::text(out, p, b"(");
-            let b = emit_type_index(types, ids, out, a, call, seen, left, this);
-            let c = emit_arg_list(types, ids, out, b, call, seen, left, true, e);
+            let b = emit_type_index(types, ids, bounds, places, out, a, call, seen, left, this);
+            let c = emit_arg_list(
+                types,
+                ids,
+                bounds,
+                places,
+                out,
+                b,
+                call,
+                seen,
+                left,
+                true,
+                e,
+            );
             pen::text(out, c, b")")
         }
         ThisRead::Refused(f) => pen::unread(out, p, f),
@@ -153,6 +195,8 @@ fn args(
 fn emit_member_ptr(
     types: &[u8],
     ids: &[u8],
+    bounds: &[u32],
+    places: &[u32],
     out: &mut [u8],
     p: Pen,
     call: Call,
@@ -162,22 +206,48 @@ fn emit_member_ptr(
     m: MemberFunctionType,
 ) -> Pen
     requires { ⌜ (length (now seen) ≡ 96) × (left ≤ 96) ⌝ }
-    ensures { λ r. ⌜ Writes left (now (seen .entry)) (now (seen .exit)) (page (now (out .entry)) p) (λ o. ruling (now (types .entry)) (now (ids .entry)) call o (pointed (settingsOf call) (levelsOf levels) (method (methodOf m)))) (page (now (out .exit)) r) ⌝ }
+    ensures { λ r. ⌜ Writes left (now (seen .entry)) (now (seen .exit)) (page (now (out .entry)) p) (λ o. ruling (now (types .entry)) (lent (now (ids .entry)) (now (bounds .entry)) (now (places .entry))) call o (pointed (settingsOf call) (levelsOf levels) (method (methodOf m)))) (page (now (out .exit)) r) ⌝ }
 {
     let result = m.result;
     let class = m.class;
-    let a = emit_return_type(types, ids, out, p, call, seen, left, m.constructor, result);
+    let a = emit_return_type(
+        types,
+        ids,
+        bounds,
+        places,
+        out,
+        p,
+        call,
+        seen,
+        left,
+        m.constructor,
+        result,
+    );
     let b = pen::text(out, a, b"(");
-    let c = emit_type_index(types, ids, out, b, call, seen, left, class);
+    let c = emit_type_index(types, ids, bounds, places, out, b, call, seen, left, class);
     let d = emit_attributes(out, c, call, levels, false, false);
     let e = pen::text(out, d, b")");
-    emit_method_args(types, ids, out, e, call, seen, left, m, false)
+    emit_method_args(
+        types,
+        ids,
+        bounds,
+        places,
+        out,
+        e,
+        call,
+        seen,
+        left,
+        m,
+        false,
+    )
 }
 
 // A pointer to a procedure.
 fn emit_proc_ptr(
     types: &[u8],
     ids: &[u8],
+    bounds: &[u32],
+    places: &[u32],
     out: &mut [u8],
     p: Pen,
     call: Call,
@@ -187,17 +257,29 @@ fn emit_proc_ptr(
     x: ProcedureType,
 ) -> Pen
     requires { ⌜ (length (now seen) ≡ 96) × (left ≤ 96) ⌝ }
-    ensures { λ r. ⌜ Writes left (now (seen .entry)) (now (seen .exit)) (page (now (out .entry)) p) (λ o. ruling (now (types .entry)) (now (ids .entry)) call o (pointed (settingsOf call) (levelsOf levels) (procedure (x .result .0) (x .constructor) (x .arguments .0)))) (page (now (out .exit)) r) ⌝ }
+    ensures { λ r. ⌜ Writes left (now (seen .entry)) (now (seen .exit)) (page (now (out .entry)) p) (λ o. ruling (now (types .entry)) (lent (now (ids .entry)) (now (bounds .entry)) (now (places .entry))) call o (pointed (settingsOf call) (levelsOf levels) (procedure (x .result .0) (x .constructor) (x .arguments .0)))) (page (now (out .exit)) r) ⌝ }
 {
     let result = x.result;
     let list = x.arguments;
     let none = is_void(x.constructor, result);
-    let a = emit_return_type(types, ids, out, p, call, seen, left, none, result);
+    let a = emit_return_type(
+        types,
+        ids,
+        bounds,
+        places,
+        out,
+        p,
+        call,
+        seen,
+        left,
+        none,
+        result,
+    );
     let b = pen::text(out, a, b"(");
     let c = emit_attributes(out, b, call, levels, false, false);
     let d = pen::text(out, c, b")");
     let e = pen::text(out, d, b"(");
-    let f = emit_type_index(types, ids, out, e, call, seen, left, list);
+    let f = emit_type_index(types, ids, bounds, places, out, e, call, seen, left, list);
     pen::text(out, f, b")")
 }
 
@@ -205,6 +287,8 @@ fn emit_proc_ptr(
 fn emit_other_ptr(
     types: &[u8],
     ids: &[u8],
+    bounds: &[u32],
+    places: &[u32],
     out: &mut [u8],
     p: Pen,
     call: Call,
@@ -214,10 +298,10 @@ fn emit_other_ptr(
     t: TypeData,
 ) -> Pen
     requires { ⌜ (length (now seen) ≡ 96) × (left < 96) ⌝ }
-    ensures { λ r. ⌜ Writes left (now (seen .entry)) (now (seen .exit)) (page (now (out .entry)) p) (λ o. ruling (now (types .entry)) (now (ids .entry)) call o (plainPointed (settingsOf call) (levelsOf levels) (typeContents (now (types .entry)) t))) (page (now (out .exit)) r) ⌝ }
+    ensures { λ r. ⌜ Writes left (now (seen .entry)) (now (seen .exit)) (page (now (out .entry)) p) (λ o. ruling (now (types .entry)) (lent (now (ids .entry)) (now (bounds .entry)) (now (places .entry))) call o (plainPointed (settingsOf call) (levelsOf levels) (typeContents (now (types .entry)) t))) (page (now (out .exit)) r) ⌝ }
 {
     let start = p.at;
-    let q = emit_type(types, ids, out, p, call, seen, left, t);
+    let q = emit_type(types, ids, bounds, places, out, p, call, seen, left, t);
     emit_attributes_since(out, q, call, levels, start)
 }
 
@@ -225,6 +309,8 @@ fn emit_other_ptr(
 fn emit_ptr_helper(
     types: &[u8],
     ids: &[u8],
+    bounds: &[u32],
+    places: &[u32],
     out: &mut [u8],
     p: Pen,
     call: Call,
@@ -234,12 +320,14 @@ fn emit_ptr_helper(
     t: TypeData,
 ) -> Pen
     requires { ⌜ (length (now seen) ≡ 96) × (left < 96) ⌝ }
-    ensures { λ r. ⌜ Writes left (now (seen .entry)) (now (seen .exit)) (page (now (out .entry)) p) (λ o. ruling (now (types .entry)) (now (ids .entry)) call o (pointed (settingsOf call) (levelsOf levels) (typeContents (now (types .entry)) t))) (page (now (out .exit)) r) ⌝ }
+    ensures { λ r. ⌜ Writes left (now (seen .entry)) (now (seen .exit)) (page (now (out .entry)) p) (λ o. ruling (now (types .entry)) (lent (now (ids .entry)) (now (bounds .entry)) (now (places .entry))) call o (pointed (settingsOf call) (levelsOf levels) (typeContents (now (types .entry)) t))) (page (now (out .exit)) r) ⌝ }
 {
     match t {
         TypeData::MemberFunction(m) => emit_member_ptr(
             types,
             ids,
+            bounds,
+            places,
             out,
             p,
             call,
@@ -248,8 +336,32 @@ fn emit_ptr_helper(
             levels,
             m,
         ),
-        TypeData::Procedure(x) => emit_proc_ptr(types, ids, out, p, call, seen, left, levels, x),
-        _ => emit_other_ptr(types, ids, out, p, call, seen, left, levels, t),
+        TypeData::Procedure(x) => emit_proc_ptr(
+            types,
+            ids,
+            bounds,
+            places,
+            out,
+            p,
+            call,
+            seen,
+            left,
+            levels,
+            x,
+        ),
+        _ => emit_other_ptr(
+            types,
+            ids,
+            bounds,
+            places,
+            out,
+            p,
+            call,
+            seen,
+            left,
+            levels,
+            t,
+        ),
     }
 }
 
@@ -257,6 +369,8 @@ fn emit_ptr_helper(
 fn emit_ptr(
     types: &[u8],
     ids: &[u8],
+    bounds: &[u32],
+    places: &[u32],
     out: &mut [u8],
     p: Pen,
     call: Call,
@@ -267,27 +381,64 @@ fn emit_ptr(
     index: TypeIndex,
 ) -> Pen
     requires { ⌜ (length (now seen) ≡ 96) × (left ≤ levels .left) × (levels .left ≤ 96) ⌝ }
-    ensures { λ r. ⌜ Writes left (now (seen .entry)) (now (seen .exit)) (page (now (out .entry)) p) (λ o. walking (now (types .entry)) (now (ids .entry)) call o (aimedAt modified (index .0) (levelsOf levels))) (page (now (out .exit)) r) ⌝ }
+    ensures { λ r. ⌜ Writes left (now (seen .entry)) (now (seen .exit)) (page (now (out .entry)) p) (λ o. walking (now (types .entry)) (lent (now (ids .entry)) (now (bounds .entry)) (now (places .entry))) call o (aimedAt modified (index .0) (levelsOf levels))) (page (now (out .exit)) r) ⌝ }
 {
-    let stream = call.types;
     let way = way_to(modified);
-    match open_type(types, stream, p, seen, left, way, index) {
+    match open_type(types, bounds, places, p, seen, left, way, index) {
         TypeOpening::Open(q, n, t) => match t {
             TypeData::Pointer(x) => {
                 let mode = x.mode;
                 let under = x.underlying;
                 let further = aim(levels, x.constant, mode);
-                emit_ptr(types, ids, out, q, call, seen, n, further, false, under)
+                emit_ptr(
+                    types,
+                    ids,
+                    bounds,
+                    places,
+                    out,
+                    q,
+                    call,
+                    seen,
+                    n,
+                    further,
+                    false,
+                    under,
+                )
             }
             TypeData::Modifier(m) => {
                 if modified {
-                    return emit_ptr_helper(types, ids, out, q, call, seen, n, levels, t);
+                    return emit_ptr_helper(
+                        types,
+                        ids,
+                        bounds,
+                        places,
+                        out,
+                        q,
+                        call,
+                        seen,
+                        n,
+                        levels,
+                        t,
+                    );
                 }
                 let under = m.underlying;
                 let over = over_pointee(levels, m.constant);
-                emit_ptr(types, ids, out, q, call, seen, n, over, true, under)
+                emit_ptr(
+                    types,
+                    ids,
+                    bounds,
+                    places,
+                    out,
+                    q,
+                    call,
+                    seen,
+                    n,
+                    over,
+                    true,
+                    under,
+                )
             }
-            _ => emit_ptr_helper(types, ids, out, q, call, seen, n, levels, t),
+            _ => emit_ptr_helper(types, ids, bounds, places, out, q, call, seen, n, levels, t),
         },
         TypeOpening::Stopped(q) => q,
     }
@@ -297,6 +448,8 @@ fn emit_ptr(
 fn emit_array(
     types: &[u8],
     ids: &[u8],
+    bounds: &[u32],
+    places: &[u32],
     out: &mut [u8],
     p: Pen,
     call: Call,
@@ -305,18 +458,18 @@ fn emit_array(
     x: ArrayType,
 ) -> Pen
     requires { ⌜ (length (now seen) ≡ 96) × (left < 96) ⌝ }
-    ensures { λ r. ⌜ Writes left (now (seen .entry)) (now (seen .exit)) (page (now (out .entry)) p) (λ o. walking (now (types .entry)) (now (ids .entry)) call o (element (x .element .0) (x .size ∷ []))) (page (now (out .exit)) r) ⌝ }
+    ensures { λ r. ⌜ Writes left (now (seen .entry)) (now (seen .exit)) (page (now (out .entry)) p) (λ o. walking (now (types .entry)) (lent (now (ids .entry)) (now (bounds .entry)) (now (places .entry))) call o (element (x .element .0) (x .size ∷ []))) (page (now (out .exit)) r) ⌝ }
 {
     let under = x.element;
-    let info = get_array_info(types, call, under, x.size);
+    let info = get_array_info(types, bounds, places, under, x.size);
     let end = info.end;
     let last = info.base;
     let sizes = info.sizes;
     match end {
         ArrayEnd::Base(t) => {
-            match get_type_size(types, call, last, 0) {
+            match get_type_size(types, bounds, places, call, last, 0) {
                 SizeRead::Bytes(size) => {
-                    let q = base(types, ids, out, p, call, seen, left, t);
+                    let q = base(types, ids, bounds, places, out, p, call, seen, left, t);
                     emit_brackets(out, q, sizes, size)
                 }
                 SizeRead::TooLong(index) => pen::too_long(out, p, index),
@@ -332,6 +485,8 @@ fn emit_array(
 fn base(
     types: &[u8],
     ids: &[u8],
+    bounds: &[u32],
+    places: &[u32],
     out: &mut [u8],
     p: Pen,
     call: Call,
@@ -340,7 +495,7 @@ fn base(
     t: TypeData,
 ) -> Pen
     requires { ⌜ (length (now seen) ≡ 96) × (left < 96) ⌝ }
-    ensures { λ r. ⌜ Writes left (now (seen .entry)) (now (seen .exit)) (page (now (out .entry)) p) (λ o. ruling (now (types .entry)) (now (ids .entry)) call o (texted (typeText (settingsOf call) (typeContents (now (types .entry)) t)))) (page (now (out .exit)) r) ⌝ }
+    ensures { λ r. ⌜ Writes left (now (seen .entry)) (now (seen .exit)) (page (now (out .entry)) p) (λ o. ruling (now (types .entry)) (lent (now (ids .entry)) (now (bounds .entry)) (now (places .entry))) call o (texted (typeText (settingsOf call) (typeContents (now (types .entry)) t)))) (page (now (out .exit)) r) ⌝ }
 {
     if pen::is_idle(p) {
         return p;
@@ -350,15 +505,40 @@ fn base(
             let mode = x.mode;
             let under = x.underlying;
             let first = aim(no_levels(), x.constant, mode);
-            let q = emit_ptr(types, ids, out, p, call, seen, left, first, false, under);
+            let q = emit_ptr(
+                types,
+                ids,
+                bounds,
+                places,
+                out,
+                p,
+                call,
+                seen,
+                left,
+                first,
+                false,
+                under,
+            );
             mark_missing(out, q)
         }
         TypeData::Modifier(m) => {
             let under = m.underlying;
-            let q = emit_modifier(types, ids, out, p, call, seen, left, m.constant, under);
+            let q = emit_modifier(
+                types,
+                ids,
+                bounds,
+                places,
+                out,
+                p,
+                call,
+                seen,
+                left,
+                m.constant,
+                under,
+            );
             mark_missing(out, q)
         }
-        _ => emit_type(types, ids, out, p, call, seen, left, t),
+        _ => emit_type(types, ids, bounds, places, out, p, call, seen, left, t),
     }
 }
 
@@ -366,6 +546,8 @@ fn base(
 fn emit_modifier(
     types: &[u8],
     ids: &[u8],
+    bounds: &[u32],
+    places: &[u32],
     out: &mut [u8],
     p: Pen,
     call: Call,
@@ -375,21 +557,33 @@ fn emit_modifier(
     index: TypeIndex,
 ) -> Pen
     requires { ⌜ (length (now seen) ≡ 96) × (left ≤ 96) ⌝ }
-    ensures { λ r. ⌜ Writes left (now (seen .entry)) (now (seen .exit)) (page (now (out .entry)) p) (λ o. walking (now (types .entry)) (now (ids .entry)) call o (modified (index .0) constant)) (page (now (out .exit)) r) ⌝ }
+    ensures { λ r. ⌜ Writes left (now (seen .entry)) (now (seen .exit)) (page (now (out .entry)) p) (λ o. walking (now (types .entry)) (lent (now (ids .entry)) (now (bounds .entry)) (now (places .entry))) call o (modified (index .0) constant)) (page (now (out .exit)) r) ⌝ }
 {
-    let stream = call.types;
-    match open_type(types, stream, p, seen, left, Way::Modified, index) {
+    match open_type(types, bounds, places, p, seen, left, Way::Modified, index) {
         TypeOpening::Open(q, n, t) => match t {
             TypeData::Pointer(x) => {
                 let mode = x.mode;
                 let under = x.underlying;
                 let first = aim(no_levels(), either(x.constant, constant), mode);
-                emit_ptr(types, ids, out, q, call, seen, n, first, false, under)
+                emit_ptr(
+                    types,
+                    ids,
+                    bounds,
+                    places,
+                    out,
+                    q,
+                    call,
+                    seen,
+                    n,
+                    first,
+                    false,
+                    under,
+                )
             }
             TypeData::Primitive(x) => emit_primitive(out, q, call, constant, x.code, x.indirection),
             _ => {
                 let a = text_if(out, q, constant, b"const ");
-                emit_type(types, ids, out, a, call, seen, n, t)
+                emit_type(types, ids, bounds, places, out, a, call, seen, n, t)
             }
         },
         TypeOpening::Stopped(q) => q,
@@ -400,6 +594,8 @@ fn emit_modifier(
 fn emit_arg_list(
     types: &[u8],
     ids: &[u8],
+    bounds: &[u32],
+    places: &[u32],
     out: &mut [u8],
     p: Pen,
     call: Call,
@@ -409,7 +605,7 @@ fn emit_arg_list(
     e: Entries,
 ) -> Pen
     requires { ⌜ (length (now seen) ≡ 96) × (left ≤ 96) ⌝ }
-    ensures { λ r. ⌜ Writes left (now (seen .entry)) (now (seen .exit)) (page (now (out .entry)) p) (λ o. ruling (now (types .entry)) (now (ids .entry)) call o (argumentEntries (settingsOf call) led (entriesAt (now (types .entry)) e))) (page (now (out .exit)) r) ⌝ }
+    ensures { λ r. ⌜ Writes left (now (seen .entry)) (now (seen .exit)) (page (now (out .entry)) p) (λ o. ruling (now (types .entry)) (lent (now (ids .entry)) (now (bounds .entry)) (now (places .entry))) call o (argumentEntries (settingsOf call) led (entriesAt (now (types .entry)) e))) (page (now (out .exit)) r) ⌝ }
 {
     let mut q = p;
     let mut between = led;
@@ -420,7 +616,7 @@ fn emit_arg_list(
         }
         let c = emit_comma(out, q, call, between);
         let index = TypeIndex(entry_at(types, e, i));
-        q = emit_type_index(types, ids, out, c, call, seen, left, index);
+        q = emit_type_index(types, ids, bounds, places, out, c, call, seen, left, index);
         between = true;
         i += 1;
     }
@@ -431,6 +627,8 @@ fn emit_arg_list(
 pub fn emit_type_index(
     types: &[u8],
     ids: &[u8],
+    bounds: &[u32],
+    places: &[u32],
     out: &mut [u8],
     p: Pen,
     call: Call,
@@ -439,16 +637,26 @@ pub fn emit_type_index(
     index: TypeIndex,
 ) -> Pen
     requires { ⌜ (length (now seen) ≡ 96) × (left ≤ 96) ⌝ }
-    ensures { λ r. ⌜ Writes left (now (seen .entry)) (now (seen .exit)) (page (now (out .entry)) p) (λ o. walking (now (types .entry)) (now (ids .entry)) call o (byItself (index .0))) (page (now (out .exit)) r) ⌝ }
+    ensures { λ r. ⌜ Writes left (now (seen .entry)) (now (seen .exit)) (page (now (out .entry)) p) (λ o. walking (now (types .entry)) (lent (now (ids .entry)) (now (bounds .entry)) (now (places .entry))) call o (byItself (index .0))) (page (now (out .exit)) r) ⌝ }
 {
     if pen::is_idle(p) {
         return p;
     }
-    let stream = call.types;
-    match type_at(types, stream, index) {
+    match type_at(types, bounds, places, index) {
         TypeRead::Good(t) => {
             match open_index(p, seen, left, Way::Itself, index) {
-                Opening::Open(q, n) => emit_type(types, ids, out, q, call, seen, n, t),
+                Opening::Open(q, n) => emit_type(
+                    types,
+                    ids,
+                    bounds,
+                    places,
+                    out,
+                    q,
+                    call,
+                    seen,
+                    n,
+                    t,
+                ),
                 Opening::Stopped(q) => q,
             }
         }
@@ -460,6 +668,8 @@ pub fn emit_type_index(
 fn emit_type(
     types: &[u8],
     ids: &[u8],
+    bounds: &[u32],
+    places: &[u32],
     out: &mut [u8],
     p: Pen,
     call: Call,
@@ -468,12 +678,12 @@ fn emit_type(
     t: TypeData,
 ) -> Pen
     requires { ⌜ (length (now seen) ≡ 96) × (left < 96) ⌝ }
-    ensures { λ r. ⌜ Writes left (now (seen .entry)) (now (seen .exit)) (page (now (out .entry)) p) (λ o. ruling (now (types .entry)) (now (ids .entry)) call o (texted (typeText (settingsOf call) (typeContents (now (types .entry)) t)))) (page (now (out .exit)) r) ⌝ }
+    ensures { λ r. ⌜ Writes left (now (seen .entry)) (now (seen .exit)) (page (now (out .entry)) p) (λ o. ruling (now (types .entry)) (lent (now (ids .entry)) (now (bounds .entry)) (now (places .entry))) call o (texted (typeText (settingsOf call) (typeContents (now (types .entry)) t)))) (page (now (out .exit)) r) ⌝ }
 {
     if pen::is_idle(p) {
         return p;
     }
-    let q = emit_type_inner(types, ids, out, p, call, seen, left, t);
+    let q = emit_type_inner(types, ids, bounds, places, out, p, call, seen, left, t);
     mark_missing(out, q)
 }
 
@@ -481,6 +691,8 @@ fn emit_type(
 fn emit_type_inner(
     types: &[u8],
     ids: &[u8],
+    bounds: &[u32],
+    places: &[u32],
     out: &mut [u8],
     p: Pen,
     call: Call,
@@ -489,35 +701,108 @@ fn emit_type_inner(
     t: TypeData,
 ) -> Pen
     requires { ⌜ (length (now seen) ≡ 96) × (left < 96) ⌝ }
-    ensures { λ r. ⌜ Writes left (now (seen .entry)) (now (seen .exit)) (page (now (out .entry)) p) (λ o. ruling (now (types .entry)) (now (ids .entry)) call o (typeText (settingsOf call) (typeContents (now (types .entry)) t))) (page (now (out .exit)) r) ⌝ }
+    ensures { λ r. ⌜ Writes left (now (seen .entry)) (now (seen .exit)) (page (now (out .entry)) p) (λ o. ruling (now (types .entry)) (lent (now (ids .entry)) (now (bounds .entry)) (now (places .entry))) call o (typeText (settingsOf call) (typeContents (now (types .entry)) t))) (page (now (out .exit)) r) ⌝ }
 {
     match t {
         TypeData::Primitive(x) => emit_primitive(out, p, call, false, x.code, x.indirection),
         TypeData::Modifier(m) => {
             let under = m.underlying;
-            emit_modifier(types, ids, out, p, call, seen, left, m.constant, under)
+            emit_modifier(
+                types,
+                ids,
+                bounds,
+                places,
+                out,
+                p,
+                call,
+                seen,
+                left,
+                m.constant,
+                under,
+            )
         }
         TypeData::Pointer(x) => {
             let mode = x.mode;
             let under = x.underlying;
             let first = aim(no_levels(), x.constant, mode);
-            emit_ptr(types, ids, out, p, call, seen, left, first, false, under)
+            emit_ptr(
+                types,
+                ids,
+                bounds,
+                places,
+                out,
+                p,
+                call,
+                seen,
+                left,
+                first,
+                false,
+                under,
+            )
         }
         TypeData::Procedure(x) => {
             let list = x.arguments;
             let none = hides_return(call, is_void(x.constructor, x.result));
-            let a = emit_return_type(types, ids, out, p, call, seen, left, none, x.result);
+            let a = emit_return_type(
+                types,
+                ids,
+                bounds,
+                places,
+                out,
+                p,
+                call,
+                seen,
+                left,
+                none,
+                x.result,
+            );
             let b = pen::text(out, a, b"()(");
-            emit_type_index(types, ids, out, b, call, seen, left, list)
+            emit_type_index(types, ids, bounds, places, out, b, call, seen, left, list)
         }
         TypeData::MemberFunction(m) => {
             let none = hides_return(call, m.constructor);
-            let a = emit_return_type(types, ids, out, p, call, seen, left, none, m.result);
+            let a = emit_return_type(
+                types,
+                ids,
+                bounds,
+                places,
+                out,
+                p,
+                call,
+                seen,
+                left,
+                none,
+                m.result,
+            );
             let b = pen::text(out, a, b"()");
-            emit_method_args(types, ids, out, b, call, seen, left, m, false)
+            emit_method_args(
+                types,
+                ids,
+                bounds,
+                places,
+                out,
+                b,
+                call,
+                seen,
+                left,
+                m,
+                false,
+            )
         }
-        TypeData::ArgumentList(e) => emit_arg_list(types, ids, out, p, call, seen, left, false, e),
-        TypeData::Array(x) => emit_array(types, ids, out, p, call, seen, left, x),
+        TypeData::ArgumentList(e) => emit_arg_list(
+            types,
+            ids,
+            bounds,
+            places,
+            out,
+            p,
+            call,
+            seen,
+            left,
+            false,
+            e,
+        ),
+        TypeData::Array(x) => emit_array(types, ids, bounds, places, out, p, call, seen, left, x),
         _ => emit_record(types, out, p, call, t),
     }
 }

@@ -21,7 +21,7 @@ abbrev claims : ℕ → lts.Claims
 claims t = (is-idle-reads.Asked, is-idle-reads.Learnt, no-levels-reads.Asked, no-levels-reads.Learnt, aim-reads.Asked, aim-reads.Learnt, emit-ptr-below t, emit-ptr.Post, mark-missing-reads.Asked, mark-missing-reads.Learnt, emit-modifier-below t, emit-modifier.Post, emit-type-below t, emit-type.Post)
 
 is-idle-requires : (t : ℕ) → lts.Need-is-idle-requires (claims t) (base-at t) base.Post
-is-idle-requires t c κs = search (c .before .before .before .before .fits, c .before .before .before .before .pre, needs)
+is-idle-requires t c κs = search (c .before .before .before .before .before .before .fits, c .before .before .before .before .before .before .pre, needs)
 
 returns : (t : ℕ) → lts.Need-returns (claims t) (base-at t) base.Post
 returns t c = unlent (wrote-idle (cc))
@@ -30,28 +30,28 @@ enum-known-t : (t : ℕ) → lts.Need-enum-known-t (claims t) (base-at t) base.P
 enum-known-t t c = search needs
 
 no-levels-requires : (t : ℕ) → lts.Need-no-levels-requires (claims t) (base-at t) base.Post
-no-levels-requires t c κs = search (c .before .before .before .match, c .before .before .before .before .if1, c .before .before .before .before .before .before .before .before .before .before .fits, c .before .before .before .before .before .before .before .before .before .before .pre, c .before .before .before .before .before .is-idle .ensures, needs)
+no-levels-requires t c κs = search (c .before .before .before .match, c .before .before .before .before .if1, c .before .before .before .before .before .before .before .before .before .before .before .before .fits, c .before .before .before .before .before .before .before .before .before .before .before .before .pre, c .before .before .before .before .before .is-idle .ensures, needs)
 
 aim-requires : (t : ℕ) → lts.Need-aim-requires (claims t) (base-at t) base.Post
-aim-requires t c κs = search (c .before .before .before .before .match, c .before .before .before .before .before .if1, c .before .before .before .before .before .before .before .before .before .before .before .fits, c .before .before .before .before .before .before .before .before .before .before .before .pre, c .no-levels .ensures, c .before .before .before .before .before .before .is-idle .ensures, needs)
+aim-requires t c κs = search (c .before .before .before .before .match, c .before .before .before .before .before .if1, c .before .before .before .before .before .before .before .before .before .before .before .before .before .fits, c .before .before .before .before .before .before .before .before .before .before .before .before .before .pre, c .no-levels .ensures, c .before .before .before .before .before .before .is-idle .ensures, needs)
 
 emit-ptr-requires : (t : ℕ) → lts.Need-emit-ptr-requires (claims t) (base-at t) base.Post
-emit-ptr-requires t c κs = search (c .before .before .before .before .before .before .before .match, c .before .before .before .before .before .before .before .before .if1, c .before .before .before .before .before .before .before .before .before .before .before .before .before .before .fits, c .before .before .before .before .before .before .before .before .before .before .before .before .before .before .pre, c .before .before .aim .ensures, c .before .before .before .no-levels .ensures, c .before .before .before .before .before .before .before .before .before .is-idle .ensures, needs)
+emit-ptr-requires t c κs = search (c .before .before .before .before .before .before .before .match, c .before .before .before .before .before .before .before .before .if1, c .before .before .before .before .before .before .before .before .before .before .before .before .before .before .before .before .fits, c .before .before .before .before .before .before .before .before .before .before .before .before .before .before .before .before .pre, c .before .before .aim .ensures, c .before .before .before .no-levels .ensures, c .before .before .before .before .before .before .before .before .before .is-idle .ensures, needs)
 
 mark-missing-requires : (t : ℕ) → lts.Need-mark-missing-requires (claims t) (base-at t) base.Post
-mark-missing-requires t c κs = search (c .before .before .before .before .before .before .before .before .before .before .before .before .before .match, c .before .before .before .before .before .before .before .before .before .before .before .before .before .before .if1, c .before .before .before .before .before .before .before .before .before .before .before .before .before .before .before .before .before .before .before .before .fits, c .before .before .before .before .before .before .before .before .before .before .before .before .before .before .before .before .before .before .before .before .pre, c .before .before .before .before .before .before .before .before .aim .ensures, c .before .before .before .before .before .before .before .before .before .no-levels .ensures, c .before .before .before .before .before .before .before .before .before .before .before .before .before .before .before .is-idle .ensures, needs)
+mark-missing-requires t c κs = search (c .before .before .before .before .before .before .before .before .before .before .before .before .before .match, c .before .before .before .before .before .before .before .before .before .before .before .before .before .before .if1, c .before .before .before .before .before .before .before .before .before .before .before .before .before .before .before .before .before .before .before .before .before .before .fits, c .before .before .before .before .before .before .before .before .before .before .before .before .before .before .before .before .before .before .before .before .before .before .pre, c .before .before .before .before .before .before .before .before .aim .ensures, c .before .before .before .before .before .before .before .before .before .no-levels .ensures, c .before .before .before .before .before .before .before .before .before .before .before .before .before .before .before .is-idle .ensures, needs)
 
 enum-known-t-2 : (t : ℕ) → lts.Need-enum-known-t-2 (claims t) (base-at t) base.Post
 enum-known-t-2 t c = search needs
 
 emit-modifier-requires : (t : ℕ) → lts.Need-emit-modifier-requires (claims t) (base-at t) base.Post
-emit-modifier-requires t c κs = search (c .before .before .before .before .before .match, c .before .before .before .before .before .before .if1, c .before .before .before .before .before .before .before .before .before .before .before .before .fits, c .before .before .before .before .before .before .before .before .before .before .before .before .pre, c .before .before .before .before .before .before .before .is-idle .ensures, needs)
+emit-modifier-requires t c κs = search (c .before .before .before .before .before .match, c .before .before .before .before .before .before .if1, c .before .before .before .before .before .before .before .before .before .before .before .before .before .before .fits, c .before .before .before .before .before .before .before .before .before .before .before .before .before .before .pre, c .before .before .before .before .before .before .before .is-idle .ensures, needs)
 
 mark-missing-requires-2 : (t : ℕ) → lts.Need-mark-missing-requires-2 (claims t) (base-at t) base.Post
-mark-missing-requires-2 t c κs = search (c .before .before .before .before .before .before .before .before .before .before .before .match, c .before .before .before .before .before .before .before .before .before .before .before .before .if1, c .before .before .before .before .before .before .before .before .before .before .before .before .before .before .before .before .before .before .fits, c .before .before .before .before .before .before .before .before .before .before .before .before .before .before .before .before .before .before .pre, c .before .before .before .before .before .before .before .before .before .before .before .before .before .is-idle .ensures, needs)
+mark-missing-requires-2 t c κs = search (c .before .before .before .before .before .before .before .before .before .before .before .match, c .before .before .before .before .before .before .before .before .before .before .before .before .if1, c .before .before .before .before .before .before .before .before .before .before .before .before .before .before .before .before .before .before .before .before .fits, c .before .before .before .before .before .before .before .before .before .before .before .before .before .before .before .before .before .before .before .before .pre, c .before .before .before .before .before .before .before .before .before .before .before .before .before .is-idle .ensures, needs)
 
 emit-type-requires : (t : ℕ) → lts.Need-emit-type-requires (claims t) (base-at t) base.Post
-emit-type-requires t c κs = (omega (arith, c .before .before .before .before .before .before .before .before .before .pre), c .before .before .before .before .before .before .before .before .before .pre .1)
+emit-type-requires t c κs = (omega (arith, c .before .before .before .before .before .before .before .before .before .before .before .pre), c .before .before .before .before .before .before .before .before .before .before .before .pre .1)
 
 returns-2 : (t : ℕ) → lts.Need-returns-2 (claims t) (base-at t) base.Post
 returns-2 t c = writes-by (writes-marking (sym (c .before .before .before .before .before .before .before .before .before .before .before .before .before .before .before .before .before .before .is-idle .ensures) ∙ c .before .before .before .before .before .before .before .before .before .before .before .before .before .before .before .before .before .if1 .left) (c .before .before .before .before .before .before .before .before .emit-ptr .ensures) (c .before .before .mark-missing .ensures)) (text-by _ _ _ _ _ (inner-pointer _ _ _ _ _ _ _ _ (c .before .before .before .before .before .before .before .before .before .before .before .before .before .before .before .t .given .1) (c .before .before .before .before .before .before .before .before .before .before .before .before .no-levels .ensures .levels) (c .before .before .before .before .before .before .before .before .before .before .before .aim .ensures .1)))

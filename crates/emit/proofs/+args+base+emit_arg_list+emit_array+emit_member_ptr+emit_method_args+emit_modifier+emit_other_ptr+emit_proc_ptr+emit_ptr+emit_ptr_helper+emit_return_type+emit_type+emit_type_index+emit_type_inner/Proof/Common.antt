@@ -65,137 +65,137 @@ use Rattle.leaf_writers.proofs.marks.mark_missing.Reads as mark-missing-reads
 use Prim.Native.Nat.{_+_, _*_}  -- common
 use Rattle.queries.specs.Arrays.{arrayed}  -- common
 
-abbrev pub μ-args : Measures 4 args-kinds.ps ℕ
-μ-args κs a = a .1 .1 .1 .1 .1 .1 .0 * 64 + 3
+abbrev pub μ-args : Measures 6 args-kinds.ps ℕ
+μ-args κs a = a .1 .1 .1 .1 .1 .1 .1 .1 .0 * 64 + 3
 
-abbrev pub args-at : ℕ → In 4 args-kinds.ps
-args-at t = and 4 args-kinds.ps (is 4 args-kinds.ps μ-args t) args.Pre
+abbrev pub args-at : ℕ → In 6 args-kinds.ps
+args-at t = and 6 args-kinds.ps (is 6 args-kinds.ps μ-args t) args.Pre
 
-abbrev pub args-below : ℕ → In 4 args-kinds.ps
-args-below t = and 4 args-kinds.ps (falls 4 args-kinds.ps _<_ μ-args t) args.Pre
+abbrev pub args-below : ℕ → In 6 args-kinds.ps
+args-below t = and 6 args-kinds.ps (falls 6 args-kinds.ps _<_ μ-args t) args.Pre
 
-abbrev pub μ-base : Measures 4 base-kinds.ps ℕ
-μ-base κs a = a .1 .1 .1 .1 .1 .1 .0 * 64 + (12 + 10 * arrayed (a .1 .1 .1 .1 .1 .1 .1 .0))
+abbrev pub μ-base : Measures 6 base-kinds.ps ℕ
+μ-base κs a = a .1 .1 .1 .1 .1 .1 .1 .1 .0 * 64 + (12 + 10 * arrayed (a .1 .1 .1 .1 .1 .1 .1 .1 .1 .0))
 
-abbrev pub base-at : ℕ → In 4 base-kinds.ps
-base-at t = and 4 base-kinds.ps (is 4 base-kinds.ps μ-base t) base.Pre
+abbrev pub base-at : ℕ → In 6 base-kinds.ps
+base-at t = and 6 base-kinds.ps (is 6 base-kinds.ps μ-base t) base.Pre
 
-abbrev pub base-below : ℕ → In 4 base-kinds.ps
-base-below t = and 4 base-kinds.ps (falls 4 base-kinds.ps _<_ μ-base t) base.Pre
+abbrev pub base-below : ℕ → In 6 base-kinds.ps
+base-below t = and 6 base-kinds.ps (falls 6 base-kinds.ps _<_ μ-base t) base.Pre
 
-abbrev pub μ-emit-arg-list : Measures 4 emit-arg-list-kinds.ps ℕ
-μ-emit-arg-list κs a = a .1 .1 .1 .1 .1 .1 .0 * 64 + 2
+abbrev pub μ-emit-arg-list : Measures 6 emit-arg-list-kinds.ps ℕ
+μ-emit-arg-list κs a = a .1 .1 .1 .1 .1 .1 .1 .1 .0 * 64 + 2
 
-abbrev pub emit-arg-list-at : ℕ → In 4 emit-arg-list-kinds.ps
-emit-arg-list-at t = and 4 emit-arg-list-kinds.ps (is 4 emit-arg-list-kinds.ps μ-emit-arg-list t) emit-arg-list.Pre
+abbrev pub emit-arg-list-at : ℕ → In 6 emit-arg-list-kinds.ps
+emit-arg-list-at t = and 6 emit-arg-list-kinds.ps (is 6 emit-arg-list-kinds.ps μ-emit-arg-list t) emit-arg-list.Pre
 
-abbrev pub emit-arg-list-below : ℕ → In 4 emit-arg-list-kinds.ps
-emit-arg-list-below t = and 4 emit-arg-list-kinds.ps (falls 4 emit-arg-list-kinds.ps _<_ μ-emit-arg-list t) emit-arg-list.Pre
+abbrev pub emit-arg-list-below : ℕ → In 6 emit-arg-list-kinds.ps
+emit-arg-list-below t = and 6 emit-arg-list-kinds.ps (falls 6 emit-arg-list-kinds.ps _<_ μ-emit-arg-list t) emit-arg-list.Pre
 
-abbrev pub μ-emit-array : Measures 4 emit-array-kinds.ps ℕ
-μ-emit-array κs a = a .1 .1 .1 .1 .1 .1 .0 * 64 + 15
+abbrev pub μ-emit-array : Measures 6 emit-array-kinds.ps ℕ
+μ-emit-array κs a = a .1 .1 .1 .1 .1 .1 .1 .1 .0 * 64 + 15
 
-abbrev pub emit-array-at : ℕ → In 4 emit-array-kinds.ps
-emit-array-at t = and 4 emit-array-kinds.ps (is 4 emit-array-kinds.ps μ-emit-array t) emit-array.Pre
+abbrev pub emit-array-at : ℕ → In 6 emit-array-kinds.ps
+emit-array-at t = and 6 emit-array-kinds.ps (is 6 emit-array-kinds.ps μ-emit-array t) emit-array.Pre
 
-abbrev pub emit-array-below : ℕ → In 4 emit-array-kinds.ps
-emit-array-below t = and 4 emit-array-kinds.ps (falls 4 emit-array-kinds.ps _<_ μ-emit-array t) emit-array.Pre
+abbrev pub emit-array-below : ℕ → In 6 emit-array-kinds.ps
+emit-array-below t = and 6 emit-array-kinds.ps (falls 6 emit-array-kinds.ps _<_ μ-emit-array t) emit-array.Pre
 
-abbrev pub μ-emit-member-ptr : Measures 4 emit-member-ptr-kinds.ps ℕ
-μ-emit-member-ptr κs a = a .1 .1 .1 .1 .1 .1 .0 * 64 + 5
+abbrev pub μ-emit-member-ptr : Measures 6 emit-member-ptr-kinds.ps ℕ
+μ-emit-member-ptr κs a = a .1 .1 .1 .1 .1 .1 .1 .1 .0 * 64 + 5
 
-abbrev pub emit-member-ptr-at : ℕ → In 4 emit-member-ptr-kinds.ps
-emit-member-ptr-at t = and 4 emit-member-ptr-kinds.ps (is 4 emit-member-ptr-kinds.ps μ-emit-member-ptr t) emit-member-ptr.Pre
+abbrev pub emit-member-ptr-at : ℕ → In 6 emit-member-ptr-kinds.ps
+emit-member-ptr-at t = and 6 emit-member-ptr-kinds.ps (is 6 emit-member-ptr-kinds.ps μ-emit-member-ptr t) emit-member-ptr.Pre
 
-abbrev pub emit-member-ptr-below : ℕ → In 4 emit-member-ptr-kinds.ps
-emit-member-ptr-below t = and 4 emit-member-ptr-kinds.ps (falls 4 emit-member-ptr-kinds.ps _<_ μ-emit-member-ptr t) emit-member-ptr.Pre
+abbrev pub emit-member-ptr-below : ℕ → In 6 emit-member-ptr-kinds.ps
+emit-member-ptr-below t = and 6 emit-member-ptr-kinds.ps (falls 6 emit-member-ptr-kinds.ps _<_ μ-emit-member-ptr t) emit-member-ptr.Pre
 
-abbrev pub μ-emit-method-args : Measures 4 emit-method-args-kinds.ps ℕ
-μ-emit-method-args κs a = a .1 .1 .1 .1 .1 .1 .0 * 64 + 1
+abbrev pub μ-emit-method-args : Measures 6 emit-method-args-kinds.ps ℕ
+μ-emit-method-args κs a = a .1 .1 .1 .1 .1 .1 .1 .1 .0 * 64 + 1
 
-abbrev pub emit-method-args-at : ℕ → In 4 emit-method-args-kinds.ps
-emit-method-args-at t = and 4 emit-method-args-kinds.ps (is 4 emit-method-args-kinds.ps μ-emit-method-args t) emit-method-args.Pre
+abbrev pub emit-method-args-at : ℕ → In 6 emit-method-args-kinds.ps
+emit-method-args-at t = and 6 emit-method-args-kinds.ps (is 6 emit-method-args-kinds.ps μ-emit-method-args t) emit-method-args.Pre
 
-abbrev pub emit-method-args-below : ℕ → In 4 emit-method-args-kinds.ps
-emit-method-args-below t = and 4 emit-method-args-kinds.ps (falls 4 emit-method-args-kinds.ps _<_ μ-emit-method-args t) emit-method-args.Pre
+abbrev pub emit-method-args-below : ℕ → In 6 emit-method-args-kinds.ps
+emit-method-args-below t = and 6 emit-method-args-kinds.ps (falls 6 emit-method-args-kinds.ps _<_ μ-emit-method-args t) emit-method-args.Pre
 
-abbrev pub μ-emit-modifier : Measures 4 emit-modifier-kinds.ps ℕ
-μ-emit-modifier κs a = a .1 .1 .1 .1 .1 .1 .0 * 64 + 1
+abbrev pub μ-emit-modifier : Measures 6 emit-modifier-kinds.ps ℕ
+μ-emit-modifier κs a = a .1 .1 .1 .1 .1 .1 .1 .1 .0 * 64 + 1
 
-abbrev pub emit-modifier-at : ℕ → In 4 emit-modifier-kinds.ps
-emit-modifier-at t = and 4 emit-modifier-kinds.ps (is 4 emit-modifier-kinds.ps μ-emit-modifier t) emit-modifier.Pre
+abbrev pub emit-modifier-at : ℕ → In 6 emit-modifier-kinds.ps
+emit-modifier-at t = and 6 emit-modifier-kinds.ps (is 6 emit-modifier-kinds.ps μ-emit-modifier t) emit-modifier.Pre
 
-abbrev pub emit-modifier-below : ℕ → In 4 emit-modifier-kinds.ps
-emit-modifier-below t = and 4 emit-modifier-kinds.ps (falls 4 emit-modifier-kinds.ps _<_ μ-emit-modifier t) emit-modifier.Pre
+abbrev pub emit-modifier-below : ℕ → In 6 emit-modifier-kinds.ps
+emit-modifier-below t = and 6 emit-modifier-kinds.ps (falls 6 emit-modifier-kinds.ps _<_ μ-emit-modifier t) emit-modifier.Pre
 
-abbrev pub μ-emit-other-ptr : Measures 4 emit-other-ptr-kinds.ps ℕ
-μ-emit-other-ptr κs a = a .1 .1 .1 .1 .1 .1 .0 * 64 + 30
+abbrev pub μ-emit-other-ptr : Measures 6 emit-other-ptr-kinds.ps ℕ
+μ-emit-other-ptr κs a = a .1 .1 .1 .1 .1 .1 .1 .1 .0 * 64 + 30
 
-abbrev pub emit-other-ptr-at : ℕ → In 4 emit-other-ptr-kinds.ps
-emit-other-ptr-at t = and 4 emit-other-ptr-kinds.ps (is 4 emit-other-ptr-kinds.ps μ-emit-other-ptr t) emit-other-ptr.Pre
+abbrev pub emit-other-ptr-at : ℕ → In 6 emit-other-ptr-kinds.ps
+emit-other-ptr-at t = and 6 emit-other-ptr-kinds.ps (is 6 emit-other-ptr-kinds.ps μ-emit-other-ptr t) emit-other-ptr.Pre
 
-abbrev pub emit-other-ptr-below : ℕ → In 4 emit-other-ptr-kinds.ps
-emit-other-ptr-below t = and 4 emit-other-ptr-kinds.ps (falls 4 emit-other-ptr-kinds.ps _<_ μ-emit-other-ptr t) emit-other-ptr.Pre
+abbrev pub emit-other-ptr-below : ℕ → In 6 emit-other-ptr-kinds.ps
+emit-other-ptr-below t = and 6 emit-other-ptr-kinds.ps (falls 6 emit-other-ptr-kinds.ps _<_ μ-emit-other-ptr t) emit-other-ptr.Pre
 
-abbrev pub μ-emit-proc-ptr : Measures 4 emit-proc-ptr-kinds.ps ℕ
-μ-emit-proc-ptr κs a = a .1 .1 .1 .1 .1 .1 .0 * 64 + 5
+abbrev pub μ-emit-proc-ptr : Measures 6 emit-proc-ptr-kinds.ps ℕ
+μ-emit-proc-ptr κs a = a .1 .1 .1 .1 .1 .1 .1 .1 .0 * 64 + 5
 
-abbrev pub emit-proc-ptr-at : ℕ → In 4 emit-proc-ptr-kinds.ps
-emit-proc-ptr-at t = and 4 emit-proc-ptr-kinds.ps (is 4 emit-proc-ptr-kinds.ps μ-emit-proc-ptr t) emit-proc-ptr.Pre
+abbrev pub emit-proc-ptr-at : ℕ → In 6 emit-proc-ptr-kinds.ps
+emit-proc-ptr-at t = and 6 emit-proc-ptr-kinds.ps (is 6 emit-proc-ptr-kinds.ps μ-emit-proc-ptr t) emit-proc-ptr.Pre
 
-abbrev pub emit-proc-ptr-below : ℕ → In 4 emit-proc-ptr-kinds.ps
-emit-proc-ptr-below t = and 4 emit-proc-ptr-kinds.ps (falls 4 emit-proc-ptr-kinds.ps _<_ μ-emit-proc-ptr t) emit-proc-ptr.Pre
+abbrev pub emit-proc-ptr-below : ℕ → In 6 emit-proc-ptr-kinds.ps
+emit-proc-ptr-below t = and 6 emit-proc-ptr-kinds.ps (falls 6 emit-proc-ptr-kinds.ps _<_ μ-emit-proc-ptr t) emit-proc-ptr.Pre
 
-abbrev pub μ-emit-ptr : Measures 4 emit-ptr-kinds.ps ℕ
-μ-emit-ptr κs a = a .1 .1 .1 .1 .1 .1 .0 * 64 + 1
+abbrev pub μ-emit-ptr : Measures 6 emit-ptr-kinds.ps ℕ
+μ-emit-ptr κs a = a .1 .1 .1 .1 .1 .1 .1 .1 .0 * 64 + 1
 
-abbrev pub emit-ptr-at : ℕ → In 4 emit-ptr-kinds.ps
-emit-ptr-at t = and 4 emit-ptr-kinds.ps (is 4 emit-ptr-kinds.ps μ-emit-ptr t) emit-ptr.Pre
+abbrev pub emit-ptr-at : ℕ → In 6 emit-ptr-kinds.ps
+emit-ptr-at t = and 6 emit-ptr-kinds.ps (is 6 emit-ptr-kinds.ps μ-emit-ptr t) emit-ptr.Pre
 
-abbrev pub emit-ptr-below : ℕ → In 4 emit-ptr-kinds.ps
-emit-ptr-below t = and 4 emit-ptr-kinds.ps (falls 4 emit-ptr-kinds.ps _<_ μ-emit-ptr t) emit-ptr.Pre
+abbrev pub emit-ptr-below : ℕ → In 6 emit-ptr-kinds.ps
+emit-ptr-below t = and 6 emit-ptr-kinds.ps (falls 6 emit-ptr-kinds.ps _<_ μ-emit-ptr t) emit-ptr.Pre
 
-abbrev pub μ-emit-ptr-helper : Measures 4 emit-ptr-helper-kinds.ps ℕ
-μ-emit-ptr-helper κs a = a .1 .1 .1 .1 .1 .1 .0 * 64 + 31
+abbrev pub μ-emit-ptr-helper : Measures 6 emit-ptr-helper-kinds.ps ℕ
+μ-emit-ptr-helper κs a = a .1 .1 .1 .1 .1 .1 .1 .1 .0 * 64 + 31
 
-abbrev pub emit-ptr-helper-at : ℕ → In 4 emit-ptr-helper-kinds.ps
-emit-ptr-helper-at t = and 4 emit-ptr-helper-kinds.ps (is 4 emit-ptr-helper-kinds.ps μ-emit-ptr-helper t) emit-ptr-helper.Pre
+abbrev pub emit-ptr-helper-at : ℕ → In 6 emit-ptr-helper-kinds.ps
+emit-ptr-helper-at t = and 6 emit-ptr-helper-kinds.ps (is 6 emit-ptr-helper-kinds.ps μ-emit-ptr-helper t) emit-ptr-helper.Pre
 
-abbrev pub emit-ptr-helper-below : ℕ → In 4 emit-ptr-helper-kinds.ps
-emit-ptr-helper-below t = and 4 emit-ptr-helper-kinds.ps (falls 4 emit-ptr-helper-kinds.ps _<_ μ-emit-ptr-helper t) emit-ptr-helper.Pre
+abbrev pub emit-ptr-helper-below : ℕ → In 6 emit-ptr-helper-kinds.ps
+emit-ptr-helper-below t = and 6 emit-ptr-helper-kinds.ps (falls 6 emit-ptr-helper-kinds.ps _<_ μ-emit-ptr-helper t) emit-ptr-helper.Pre
 
-abbrev pub μ-emit-return-type : Measures 4 emit-return-type-kinds.ps ℕ
-μ-emit-return-type κs a = a .1 .1 .1 .1 .1 .1 .0 * 64 + 2
+abbrev pub μ-emit-return-type : Measures 6 emit-return-type-kinds.ps ℕ
+μ-emit-return-type κs a = a .1 .1 .1 .1 .1 .1 .1 .1 .0 * 64 + 2
 
-abbrev pub emit-return-type-at : ℕ → In 4 emit-return-type-kinds.ps
-emit-return-type-at t = and 4 emit-return-type-kinds.ps (is 4 emit-return-type-kinds.ps μ-emit-return-type t) emit-return-type.Pre
+abbrev pub emit-return-type-at : ℕ → In 6 emit-return-type-kinds.ps
+emit-return-type-at t = and 6 emit-return-type-kinds.ps (is 6 emit-return-type-kinds.ps μ-emit-return-type t) emit-return-type.Pre
 
-abbrev pub emit-return-type-below : ℕ → In 4 emit-return-type-kinds.ps
-emit-return-type-below t = and 4 emit-return-type-kinds.ps (falls 4 emit-return-type-kinds.ps _<_ μ-emit-return-type t) emit-return-type.Pre
+abbrev pub emit-return-type-below : ℕ → In 6 emit-return-type-kinds.ps
+emit-return-type-below t = and 6 emit-return-type-kinds.ps (falls 6 emit-return-type-kinds.ps _<_ μ-emit-return-type t) emit-return-type.Pre
 
-abbrev pub μ-emit-type : Measures 4 emit-type-kinds.ps ℕ
-μ-emit-type κs a = a .1 .1 .1 .1 .1 .1 .0 * 64 + (11 + 10 * arrayed (a .1 .1 .1 .1 .1 .1 .1 .0))
+abbrev pub μ-emit-type : Measures 6 emit-type-kinds.ps ℕ
+μ-emit-type κs a = a .1 .1 .1 .1 .1 .1 .1 .1 .0 * 64 + (11 + 10 * arrayed (a .1 .1 .1 .1 .1 .1 .1 .1 .1 .0))
 
-abbrev pub emit-type-at : ℕ → In 4 emit-type-kinds.ps
-emit-type-at t = and 4 emit-type-kinds.ps (is 4 emit-type-kinds.ps μ-emit-type t) emit-type.Pre
+abbrev pub emit-type-at : ℕ → In 6 emit-type-kinds.ps
+emit-type-at t = and 6 emit-type-kinds.ps (is 6 emit-type-kinds.ps μ-emit-type t) emit-type.Pre
 
-abbrev pub emit-type-below : ℕ → In 4 emit-type-kinds.ps
-emit-type-below t = and 4 emit-type-kinds.ps (falls 4 emit-type-kinds.ps _<_ μ-emit-type t) emit-type.Pre
+abbrev pub emit-type-below : ℕ → In 6 emit-type-kinds.ps
+emit-type-below t = and 6 emit-type-kinds.ps (falls 6 emit-type-kinds.ps _<_ μ-emit-type t) emit-type.Pre
 
-abbrev pub μ-emit-type-index : Measures 4 emit-type-index-kinds.ps ℕ
-μ-emit-type-index κs a = a .1 .1 .1 .1 .1 .1 .0 * 64 + 1
+abbrev pub μ-emit-type-index : Measures 6 emit-type-index-kinds.ps ℕ
+μ-emit-type-index κs a = a .1 .1 .1 .1 .1 .1 .1 .1 .0 * 64 + 1
 
-abbrev pub emit-type-index-at : ℕ → In 4 emit-type-index-kinds.ps
-emit-type-index-at t = and 4 emit-type-index-kinds.ps (is 4 emit-type-index-kinds.ps μ-emit-type-index t) emit-type-index.Pre
+abbrev pub emit-type-index-at : ℕ → In 6 emit-type-index-kinds.ps
+emit-type-index-at t = and 6 emit-type-index-kinds.ps (is 6 emit-type-index-kinds.ps μ-emit-type-index t) emit-type-index.Pre
 
-abbrev pub emit-type-index-below : ℕ → In 4 emit-type-index-kinds.ps
-emit-type-index-below t = and 4 emit-type-index-kinds.ps (falls 4 emit-type-index-kinds.ps _<_ μ-emit-type-index t) emit-type-index.Pre
+abbrev pub emit-type-index-below : ℕ → In 6 emit-type-index-kinds.ps
+emit-type-index-below t = and 6 emit-type-index-kinds.ps (falls 6 emit-type-index-kinds.ps _<_ μ-emit-type-index t) emit-type-index.Pre
 
-abbrev pub μ-emit-type-inner : Measures 4 emit-type-inner-kinds.ps ℕ
-μ-emit-type-inner κs a = a .1 .1 .1 .1 .1 .1 .0 * 64 + (10 + 10 * arrayed (a .1 .1 .1 .1 .1 .1 .1 .0))
+abbrev pub μ-emit-type-inner : Measures 6 emit-type-inner-kinds.ps ℕ
+μ-emit-type-inner κs a = a .1 .1 .1 .1 .1 .1 .1 .1 .0 * 64 + (10 + 10 * arrayed (a .1 .1 .1 .1 .1 .1 .1 .1 .1 .0))
 
-abbrev pub emit-type-inner-at : ℕ → In 4 emit-type-inner-kinds.ps
-emit-type-inner-at t = and 4 emit-type-inner-kinds.ps (is 4 emit-type-inner-kinds.ps μ-emit-type-inner t) emit-type-inner.Pre
+abbrev pub emit-type-inner-at : ℕ → In 6 emit-type-inner-kinds.ps
+emit-type-inner-at t = and 6 emit-type-inner-kinds.ps (is 6 emit-type-inner-kinds.ps μ-emit-type-inner t) emit-type-inner.Pre
 
-abbrev pub emit-type-inner-below : ℕ → In 4 emit-type-inner-kinds.ps
-emit-type-inner-below t = and 4 emit-type-inner-kinds.ps (falls 4 emit-type-inner-kinds.ps _<_ μ-emit-type-inner t) emit-type-inner.Pre
+abbrev pub emit-type-inner-below : ℕ → In 6 emit-type-inner-kinds.ps
+emit-type-inner-below t = and 6 emit-type-inner-kinds.ps (falls 6 emit-type-inner-kinds.ps _<_ μ-emit-type-inner t) emit-type-inner.Pre

@@ -8,6 +8,7 @@ use lib.ListN.{length, drop}
 use Rattle.pen.specs.Page.{page}
 use Rattle.context.proofs.Opening.{wrote-at, writes-length}
 use Rattle.rules.specs.Types.{comma}
+use Rattle.rules.specs.Places.{lent}
 use Rattle.context.specs.Context.{settingsOf}
 use Rattle.emit.proofs.Laws.{Rest, rest-all, rest-next, rest-none, rest-idle}
 use Rattle.emit.proofs.emit_arg_list.Reads as emit-arg-list
@@ -22,31 +23,31 @@ abbrev claims : ℕ → lts.Claims
 claims t = (is-idle-reads.Asked, is-idle-reads.Learnt, emit-comma-reads.Asked, emit-comma-reads.Learnt, entry-at-reads.Asked, entry-at-reads.Learnt, emit-type-index-below t, emit-type-index.Post)
 
 abbrev Inv-loop : lts.InvT-loop
-Inv-loop types ids out₀ call seen₀ left led e q₀ between₀ i₀ out seen q between i = (i ≤ e .count) × (length out ≡ length out₀) × (length seen ≡ length seen₀) × (drop left seen ≡ drop left seen₀) × Rest types ids call (drop left seen₀) types (comma (settingsOf call)) e led between i (page out q) (page out₀ q₀)
+Inv-loop types ids bounds places out₀ call seen₀ left led e q₀ between₀ i₀ out seen q between i = (i ≤ e .count) × (length out ≡ length out₀) × (length seen ≡ length seen₀) × (drop left seen ≡ drop left seen₀) × Rest types (lent ids bounds places) call (drop left seen₀) types (comma (settingsOf call)) e led between i (page out q) (page out₀ q₀)
 
 abbrev μ-loop : lts.MeasureT-loop
-μ-loop types ids out₀ call seen₀ left led e q₀ between₀ i₀ out seen q between i = e .count - i
+μ-loop types ids bounds places out₀ call seen₀ left led e q₀ between₀ i₀ out seen q between i = e .count - i
 
 loop-holds : (t : ℕ) → lts.Need-loop-holds (claims t) (emit-arg-list-at t) emit-arg-list.Post Inv-loop μ-loop
-loop-holds t c = (omega arith, refl, refl, refl, rest-all _ _ _ _ _ _ _ (c .before .before .before .before .args .led) _)
+loop-holds t c = (omega arith, refl, refl, refl, rest-all _ _ _ _ _ _ _ (c .before .before .before .before .before .before .args .led) _)
 
 is-idle-requires : (t : ℕ) → lts.Need-is-idle-requires (claims t) (emit-arg-list-at t) emit-arg-list.Post Inv-loop μ-loop
-is-idle-requires t c κs = search (c .if1, c .before .before .before .before .before .before .before .fits, c .before .before .before .before .before .before .before .pre, needs)
+is-idle-requires t c κs = search (c .if1, c .before .before .before .before .before .before .before .before .before .fits, c .before .before .before .before .before .before .before .before .before .pre, needs)
 
 returns : (t : ℕ) → lts.Need-returns (claims t) (emit-arg-list-at t) emit-arg-list.Post Inv-loop μ-loop
 returns t c = record { wrote = rest-idle _ _ _ _ _ _ _ _ _ _ _ _ (c .before .before .before .before .loop .inv .4) (cc); kept = c .before .before .before .before .loop .inv .3 }
 
 emit-comma-requires : (t : ℕ) → lts.Need-emit-comma-requires (claims t) (emit-arg-list-at t) emit-arg-list.Post Inv-loop μ-loop
-emit-comma-requires t c κs = search (c .before .if2, c .before .before .before .if1, c .before .before .before .before .before .before .before .before .before .before .fits, c .before .before .before .before .before .before .before .before .before .before .pre, c .before .before .is-idle .ensures, needs)
+emit-comma-requires t c κs = search (c .before .if2, c .before .before .before .if1, c .before .before .before .before .before .before .before .before .before .before .before .before .fits, c .before .before .before .before .before .before .before .before .before .before .before .before .pre, c .before .before .is-idle .ensures, needs)
 
 entry-at-requires : (t : ℕ) → lts.Need-entry-at-requires (claims t) (emit-arg-list-at t) emit-arg-list.Post Inv-loop μ-loop
-entry-at-requires t c κs = search (c .before .before .before .before .if2, c .before .before .before .before .before .before .if1, c .before .before .before .before .before .before .before .before .before .before .before .before .before .fits, c .before .before .before .before .before .before .before .before .before .before .before .before .before .pre, c .before .before .before .before .before .is-idle .ensures, needs)
+entry-at-requires t c κs = search (c .before .before .before .before .if2, c .before .before .before .before .before .before .if1, c .before .before .before .before .before .before .before .before .before .before .before .before .before .before .before .fits, c .before .before .before .before .before .before .before .before .before .before .before .before .before .before .before .pre, c .before .before .before .before .before .is-idle .ensures, needs)
 
 emit-type-index-requires : (t : ℕ) → lts.Need-emit-type-index-requires (claims t) (emit-arg-list-at t) emit-arg-list.Post Inv-loop μ-loop
-emit-type-index-requires t c κs = search (c .before .before .before .before .before .before .before .if2, c .before .before .before .before .before .before .before .before .before .if1, c .before .before .before .before .before .before .before .before .before .before .before .before .before .before .before .before .fits, c .before .before .before .before .before .before .before .before .before .before .before .before .before .before .before .before .pre, c .before .before .entry-at .ensures, c .before .before .before .before .before .before .before .before .is-idle .ensures, needs)
+emit-type-index-requires t c κs = search (c .before .before .before .before .before .before .before .if2, c .before .before .before .before .before .before .before .before .before .if1, c .before .before .before .before .before .before .before .before .before .before .before .before .before .before .before .before .before .before .fits, c .before .before .before .before .before .before .before .before .before .before .before .before .before .before .before .before .before .before .pre, c .before .before .entry-at .ensures, c .before .before .before .before .before .before .before .before .is-idle .ensures, needs)
 
 add-i : (t : ℕ) → lts.Need-add-i (claims t) (emit-arg-list-at t) emit-arg-list.Post Inv-loop μ-loop
-add-i t c = search needs
+add-i t c = omega (arith, c .before .before .before .before .before .before .before .before .before .before .before .before .before .before .if1 .taken, c .before .before .before .before .before .before .before .before .before .before .before .before .before .before .before .struct-known .given .1 .0)
 
 loop-less : (t : ℕ) → lts.Need-loop-less (claims t) (emit-arg-list-at t) emit-arg-list.Post Inv-loop μ-loop
 loop-less t c = search needs

@@ -18,40 +18,40 @@ abbrev claims : ℕ → lts.Claims
 claims t = (get-array-info-reads.Asked, get-array-info-reads.Learnt, get-type-size-reads.Asked, get-type-size-reads.Learnt, base-below t, base.Post, emit-brackets-reads.Asked, emit-brackets-reads.Learnt, too-long-reads.Asked, too-long-reads.Learnt, unread-reads.Asked, unread-reads.Learnt)
 
 get-array-info-requires : (t : ℕ) → lts.Need-get-array-info-requires (claims t) (emit-array-at t) emit-array.Post
-get-array-info-requires t c κs = search (c .before .before .before .before .before .fits, c .before .before .before .before .before .pre, needs)
+get-array-info-requires t c κs = search (c .before .before .before .before .before .before .before .fits, c .before .before .before .before .before .before .before .pre, needs)
 
 enum-known-end : (t : ℕ) → lts.Need-enum-known-end (claims t) (emit-array-at t) emit-array.Post
 enum-known-end t c = search needs
 
 get-type-size-requires : (t : ℕ) → lts.Need-get-type-size-requires (claims t) (emit-array-at t) emit-array.Post
-get-type-size-requires t c κs = search (c .before .before .match, c .before .before .before .before .before .before .before .before .before .before .before .fits, c .before .before .before .before .before .before .before .before .before .before .before .pre, c .before .before .before .before .before .get-array-info .ensures, needs)
+get-type-size-requires t c κs = search (c .before .before .match, c .before .before .before .before .before .before .before .before .before .before .before .before .before .fits, c .before .before .before .before .before .before .before .before .before .before .before .before .before .pre, c .before .before .before .before .before .get-array-info .ensures, needs)
 
 enum-known-size : (t : ℕ) → lts.Need-enum-known-size (claims t) (emit-array-at t) emit-array.Post
 enum-known-size t c = search needs
 
 base-requires : (t : ℕ) → lts.Need-base-requires (claims t) (emit-array-at t) emit-array.Post
-base-requires t c κs = (omega (arith, arrayed-not _ _ (c .before .before .before .before .before .before .before .end .given .1) (c .before .before .before .before .before .before .before .before .before .before .before .get-array-info .ensures .flat), c .before .before .before .before .before .before .before .before .before .before .before .before .before .before .before .before .before .pre), c .before .before .before .before .before .before .before .before .before .before .before .before .before .before .before .before .before .pre .1)
+base-requires t c κs = (omega (arith, arrayed-not _ _ (c .before .before .before .before .before .before .before .end .given .1) (c .before .before .before .before .before .before .before .before .before .before .before .get-array-info .ensures .flat), c .before .before .before .before .before .before .before .before .before .before .before .before .before .before .before .before .before .before .before .pre), c .before .before .before .before .before .before .before .before .before .before .before .before .before .before .before .before .before .before .before .pre .1)
 
 emit-brackets-requires : (t : ℕ) → lts.Need-emit-brackets-requires (claims t) (emit-array-at t) emit-array.Post
-emit-brackets-requires t c κs = search (c .before .before .before .before .before .before .before .before .before .before .match2, c .before .before .before .before .before .before .before .before .before .before .before .before .before .before .match, c .before .before .before .before .before .before .before .before .before .before .before .before .before .before .before .before .before .before .before .before .before .before .before .fits, c .before .before .before .before .before .before .before .before .before .before .before .before .before .before .before .before .before .before .before .before .before .before .before .pre, c .before .before .before .before .before .before .before .before .before .before .before .get-type-size .ensures, c .before .before .before .before .before .before .before .before .before .before .before .before .before .before .before .before .before .get-array-info .ensures, needs)
+emit-brackets-requires t c κs = search (c .before .before .before .before .before .before .before .before .before .before .match2, c .before .before .before .before .before .before .before .before .before .before .before .before .before .before .match, c .before .before .before .before .before .before .before .before .before .before .before .before .before .before .before .before .before .before .before .before .before .before .before .before .before .fits, c .before .before .before .before .before .before .before .before .before .before .before .before .before .before .before .before .before .before .before .before .before .before .before .before .before .pre, c .before .before .before .before .before .before .before .before .before .before .before .get-type-size .ensures, c .before .before .before .before .before .before .before .before .before .before .before .before .before .before .before .before .before .get-array-info .ensures, needs)
 
 enum-known-index : (t : ℕ) → lts.Need-enum-known-index (claims t) (emit-array-at t) emit-array.Post
 enum-known-index t c = search needs
 
 too-long-requires : (t : ℕ) → lts.Need-too-long-requires (claims t) (emit-array-at t) emit-array.Post
-too-long-requires t c κs = search (c .before .before .before .match2, c .before .before .before .before .before .before .before .match, c .before .before .before .before .before .before .before .before .before .before .before .before .before .before .before .before .fits, c .before .before .before .before .before .before .before .before .before .before .before .before .before .before .before .before .pre, c .before .before .before .before .get-type-size .ensures, c .before .before .before .before .before .before .before .before .before .before .get-array-info .ensures, needs)
+too-long-requires t c κs = search (c .before .before .before .match2, c .before .before .before .before .before .before .before .match, c .before .before .before .before .before .before .before .before .before .before .before .before .before .before .before .before .before .before .fits, c .before .before .before .before .before .before .before .before .before .before .before .before .before .before .before .before .before .before .pre, c .before .before .before .before .get-type-size .ensures, c .before .before .before .before .before .before .before .before .before .before .get-array-info .ensures, needs)
 
 enum-told : (t : ℕ) → lts.Need-enum-told (claims t) (emit-array-at t) emit-array.Post
 enum-told t c = search needs
 
 too-long-requires-2 : (t : ℕ) → lts.Need-too-long-requires-2 (claims t) (emit-array-at t) emit-array.Post
-too-long-requires-2 t c κs = search (c .before .before .match, c .before .before .before .before .before .before .before .before .before .before .before .fits, c .before .before .before .before .before .before .before .before .before .before .before .pre, c .before .before .before .before .before .get-array-info .ensures, needs)
+too-long-requires-2 t c κs = search (c .before .before .match, c .before .before .before .before .before .before .before .before .before .before .before .before .before .fits, c .before .before .before .before .before .before .before .before .before .before .before .before .before .pre, c .before .before .before .before .before .get-array-info .ensures, needs)
 
 enum-known-end-2 : (t : ℕ) → lts.Need-enum-known-end-2 (claims t) (emit-array-at t) emit-array.Post
 enum-known-end-2 t c = search needs
 
 unread-requires : (t : ℕ) → lts.Need-unread-requires (claims t) (emit-array-at t) emit-array.Post
-unread-requires t c κs = search (c .before .before .before .match, c .before .before .before .before .before .before .before .before .before .before .before .before .fits, c .before .before .before .before .before .before .before .before .before .before .before .before .pre, c .before .before .before .before .before .before .get-array-info .ensures, needs)
+unread-requires t c κs = search (c .before .before .before .match, c .before .before .before .before .before .before .before .before .before .before .before .before .before .before .fits, c .before .before .before .before .before .before .before .before .before .before .before .before .before .before .pre, c .before .before .before .before .before .before .get-array-info .ensures, needs)
 
 returns : (t : ℕ) → lts.Need-returns (claims t) (emit-array-at t) emit-array.Post
 returns t c = writes-by (writes-later (c .before .before .before .before .before .before .before .before .before .before .before .before .before .before .before .before .before .before .before .before .get-array-info .ensures .taken) (writes-later (c .before .before .before .before .before .before .before .before .before .before .before .before .before .before .get-type-size .ensures .taken) (c .before .before .before .before .before .before .before .before .base .ensures ▸▸ plain (c .before .before .emit-brackets .ensures)))) (array-base _ _ _ _ _ _ _ (c .before .before .before .before .before .before .before .before .before .before .before .before .before .before .before .before .before .before .before .before .get-array-info .ensures) _ _ (c .before .before .before .before .before .before .before .before .before .before .before .before .before .before .before .before .end .given .1) (c .before .before .before .before .before .before .before .before .before .before .before .before .before .before .get-type-size .ensures) _ (c .before .before .before .before .before .before .before .before .before .before .before .before .size .given .1))

@@ -19,31 +19,31 @@ abbrev claims : ℕ → lts.Claims
 claims t = (emit-return-type-below t, emit-return-type.Post, text-reads.Asked, text-reads.Learnt, emit-type-index-below t, emit-type-index.Post, emit-attributes-reads.Asked, emit-attributes-reads.Learnt, emit-method-args-below t, emit-method-args.Post)
 
 emit-return-type-requires : (t : ℕ) → lts.Need-emit-return-type-requires (claims t) (emit-member-ptr-at t) emit-member-ptr.Post
-emit-return-type-requires t c κs = search (c .before .before .before .before .before .before .before .before .fits, c .before .before .before .before .before .before .before .before .pre, needs)
+emit-return-type-requires t c κs = search (c .before .before .before .before .before .before .before .before .before .before .fits, c .before .before .before .before .before .before .before .before .before .before .pre, needs)
 
 slice-aggregate-text : (t : ℕ) → lts.Need-slice-aggregate-text (claims t) (emit-member-ptr-at t) emit-member-ptr.Post
 slice-aggregate-text t c = search needs
 
 text-requires : (t : ℕ) → lts.Need-text-requires (claims t) (emit-member-ptr-at t) emit-member-ptr.Post
-text-requires t c κs = search (c .before .before .before .before .before .before .before .before .before .before .before .before .before .before .before .fits, c .before .before .before .before .before .before .before .before .before .before .before .before .before .before .before .pre, needs)
+text-requires t c κs = search (c .before .before .before .before .before .before .before .before .before .before .before .before .before .before .before .before .before .fits, c .before .before .before .before .before .before .before .before .before .before .before .before .before .before .before .before .before .pre, needs)
 
 emit-type-index-requires : (t : ℕ) → lts.Need-emit-type-index-requires (claims t) (emit-member-ptr-at t) emit-member-ptr.Post
-emit-type-index-requires t c κs = search (c .before .before .before .before .before .before .before .before .before .before .before .before .before .before .before .before .before .before .before .before .fits, c .before .before .before .before .before .before .before .before .before .before .before .before .before .before .before .before .before .before .before .before .pre, needs)
+emit-type-index-requires t c κs = search (c .before .before .before .before .before .before .before .before .before .before .before .before .before .before .before .before .before .before .before .before .before .before .fits, c .before .before .before .before .before .before .before .before .before .before .before .before .before .before .before .before .before .before .before .before .before .before .pre, needs)
 
 emit-attributes-requires : (t : ℕ) → lts.Need-emit-attributes-requires (claims t) (emit-member-ptr-at t) emit-member-ptr.Post
-emit-attributes-requires t c κs = search (c .before .before .before .before .before .before .before .before .before .before .before .before .before .before .before .before .before .before .before .before .before .before .before .before .before .before .fits, c .before .before .before .before .before .before .before .before .before .before .before .before .before .before .before .before .before .before .before .before .before .before .before .before .before .before .pre, needs)
+emit-attributes-requires t c κs = search (c .before .before .before .before .before .before .before .before .before .before .before .before .before .before .before .before .before .before .before .before .before .before .before .before .before .before .before .before .fits, c .before .before .before .before .before .before .before .before .before .before .before .before .before .before .before .before .before .before .before .before .before .before .before .before .before .before .before .before .pre, needs)
 
 slice-aggregate-text-2 : (t : ℕ) → lts.Need-slice-aggregate-text-2 (claims t) (emit-member-ptr-at t) emit-member-ptr.Post
 slice-aggregate-text-2 t c = search needs
 
 text-requires-2 : (t : ℕ) → lts.Need-text-requires-2 (claims t) (emit-member-ptr-at t) emit-member-ptr.Post
-text-requires-2 t c κs = search (c .before .before .before .before .before .before .before .before .before .before .before .before .before .before .before .before .before .before .before .before .before .before .before .before .before .before .before .before .before .before .before .fits, c .before .before .before .before .before .before .before .before .before .before .before .before .before .before .before .before .before .before .before .before .before .before .before .before .before .before .before .before .before .before .before .pre, needs)
+text-requires-2 t c κs = search (c .before .before .before .before .before .before .before .before .before .before .before .before .before .before .before .before .before .before .before .before .before .before .before .before .before .before .before .before .before .before .before .before .before .fits, c .before .before .before .before .before .before .before .before .before .before .before .before .before .before .before .before .before .before .before .before .before .before .before .before .before .before .before .before .before .before .before .before .before .pre, needs)
 
 emit-method-args-requires : (t : ℕ) → lts.Need-emit-method-args-requires (claims t) (emit-member-ptr-at t) emit-member-ptr.Post
-emit-method-args-requires t c κs = (omega (arith, c .before .before .before .before .before .before .before .before .before .before .before .before .before .before .before .before .before .before .before .before .before .before .before .before .before .before .before .before .before .before .before .before .before .before .before .before .pre), (c .before .before .before .before .before .before .before .before .before .before .before .before .seen2 .given ∙ c .before .before .before .before .before .before .before .before .before .before .before .before .before .before .before .before .before .before .before .before .before .before .before .before .seen .given ∙ c .before .before .before .before .before .before .before .before .before .before .before .before .before .before .before .before .before .before .before .before .before .before .before .before .before .before .before .before .before .before .before .before .before .before .before .before .pre .1 .0, c .before .before .before .before .before .before .before .before .before .before .before .before .before .before .before .before .before .before .before .before .before .before .before .before .before .before .before .before .before .before .before .before .before .before .before .before .pre .1 .1))
+emit-method-args-requires t c κs = (omega (arith, c .before .before .before .before .before .before .before .before .before .before .before .before .before .before .before .before .before .before .before .before .before .before .before .before .before .before .before .before .before .before .before .before .before .before .before .before .before .before .pre), (c .before .before .before .before .before .before .before .before .before .before .before .before .seen2 .given ∙ c .before .before .before .before .before .before .before .before .before .before .before .before .before .before .before .before .before .before .before .before .before .before .before .before .seen .given ∙ c .before .before .before .before .before .before .before .before .before .before .before .before .before .before .before .before .before .before .before .before .before .before .before .before .before .before .before .before .before .before .before .before .before .before .before .before .before .before .pre .1 .0, c .before .before .before .before .before .before .before .before .before .before .before .before .before .before .before .before .before .before .before .before .before .before .before .before .before .before .before .before .before .before .before .before .before .before .before .before .before .before .pre .1 .1))
 
 returns : (t : ℕ) → lts.Need-returns (claims t) (emit-member-ptr-at t) emit-member-ptr.Post
-returns t c = writes-by (c .before .before .before .before .before .before .before .before .before .before .before .before .before .before .before .before .before .before .before .before .before .before .before .before .before .before .before .before .before .before .before .before .emit-return-type .ensures ▸▸ plain (c .before .before .before .before .before .before .before .before .before .before .before .before .before .before .before .before .before .before .before .before .before .before .before .before .before .text .ensures) ▸▸ c .before .before .before .before .before .before .before .before .before .before .before .before .before .before .before .before .before .before .before .before .emit-type-index .ensures ▸▸ plain (c .before .before .before .before .before .before .before .before .before .before .before .before .before .before .emit-attributes .ensures) ▸▸ plain (c .before .before .before .before .before .before .before .before .before .text2 .ensures) ▸▸ c .before .before .before .before .emit-method-args .ensures) (member-ptr-is _ _ _ _ (methodOf (c .before .before .before .before .before .before .before .before .before .before .before .before .before .before .before .before .before .before .before .before .before .before .before .before .before .before .before .before .before .before .before .before .before .before .before .before .before .before .before .before .before .args .m)))
+returns t c = writes-by (c .before .before .before .before .before .before .before .before .before .before .before .before .before .before .before .before .before .before .before .before .before .before .before .before .before .before .before .before .before .before .before .before .emit-return-type .ensures ▸▸ plain (c .before .before .before .before .before .before .before .before .before .before .before .before .before .before .before .before .before .before .before .before .before .before .before .before .before .text .ensures) ▸▸ c .before .before .before .before .before .before .before .before .before .before .before .before .before .before .before .before .before .before .before .before .emit-type-index .ensures ▸▸ plain (c .before .before .before .before .before .before .before .before .before .before .before .before .before .before .emit-attributes .ensures) ▸▸ plain (c .before .before .before .before .before .before .before .before .before .text2 .ensures) ▸▸ c .before .before .before .before .emit-method-args .ensures) (member-ptr-is _ _ _ _ (methodOf (c .before .before .before .before .before .before .before .before .before .before .before .before .before .before .before .before .before .before .before .before .before .before .before .before .before .before .before .before .before .before .before .before .before .before .before .before .before .before .before .before .before .before .before .args .m)))
 
 same-length : (t : ℕ) → lts.Need-same-length (claims t) (emit-member-ptr-at t) emit-member-ptr.Post
 same-length t c = writes-length (returns t c)

@@ -19,13 +19,13 @@ abbrev claims : ℕ → lts.Claims
 claims t = (no-arguments-reads.Asked, no-arguments-reads.Learnt, open-type-reads.Asked, open-type-reads.Learnt, refuse-reads.Asked, refuse-reads.Learnt, args-below t, args.Post)
 
 no-arguments-requires : (t : ℕ) → lts.Need-no-arguments-requires (claims t) (emit-method-args-at t) emit-method-args.Post
-no-arguments-requires t c κs = search (c .before .before .before .before .fits, c .before .before .before .before .pre, needs)
+no-arguments-requires t c κs = search (c .before .before .before .before .before .before .fits, c .before .before .before .before .before .before .pre, needs)
 
 returns : (t : ℕ) → lts.Need-returns (claims t) (emit-method-args-at t) emit-method-args.Post
 returns t c = unlent (search (walks, needs))
 
 open-type-requires : (t : ℕ) → lts.Need-open-type-requires (claims t) (emit-method-args-at t) emit-method-args.Post
-open-type-requires t c κs = search (c .before .before .before .if1, c .before .before .before .before .before .before .before .before .before .fits, c .before .before .before .before .before .before .before .before .before .pre, c .before .before .before .before .no-arguments .ensures, needs)
+open-type-requires t c κs = search (c .before .before .if1, c .before .before .before .before .before .before .before .before .before .before .fits, c .before .before .before .before .before .before .before .before .before .before .pre, c .before .before .before .no-arguments .ensures, needs)
 
 enum-known-q : (t : ℕ) → lts.Need-enum-known-q (claims t) (emit-method-args-at t) emit-method-args.Post
 enum-known-q t c = search needs
@@ -34,22 +34,22 @@ enum-known-t : (t : ℕ) → lts.Need-enum-known-t (claims t) (emit-method-args-
 enum-known-t t c = search needs
 
 refuse-requires : (t : ℕ) → lts.Need-refuse-requires (claims t) (emit-method-args-at t) emit-method-args.Post
-refuse-requires t c κs = search (c .before .match2, c .before .before .before .before .match, c .before .before .before .before .before .before .before .before .before .before .before .if1, c .before .before .before .before .before .before .before .before .before .before .before .before .before .before .before .before .before .fits, c .before .before .before .before .before .before .before .before .before .before .before .before .before .before .before .before .before .pre, c .before .before .before .before .before .before .before .open-type .ensures, c .before .before .before .before .before .before .before .before .before .before .before .before .no-arguments .ensures, needs)
+refuse-requires t c κs = search (c .before .match2, c .before .before .before .before .match, c .before .before .before .before .before .before .before .before .before .before .if1, c .before .before .before .before .before .before .before .before .before .before .before .before .before .before .before .before .before .before .fits, c .before .before .before .before .before .before .before .before .before .before .before .before .before .before .before .before .before .before .pre, c .before .before .before .before .before .before .before .open-type .ensures, c .before .before .before .before .before .before .before .before .before .before .before .no-arguments .ensures, needs)
 
 returns-2 : (t : ℕ) → lts.Need-returns-2 (claims t) (emit-method-args-at t) emit-method-args.Post
-returns-2 t c = args-open _ _ _ _ _ (methodOf (c .before .before .before .before .before .before .before .before .before .before .before .before .before .before .before .before .before .before .args .m)) (c .before .before .before .before .before .before .before .before .before .before .before .before .before .before .before .before .before .before .args .closes) _ (c .before .before .before .before .before .before .before .before .before .before .before .before .before .no-arguments .ensures) (c .before .before .before .before .before .before .before .before .before .before .before .before .if1 .left) _ (c .before .before .before .before .before .before .before .before .open-type .ensures) (c .before .before .before .before .before .before .before .before .before .before .before .before .before .before .before .before .before .before .pre .1 .0) (omega (arith, c .before .before .before .before .before .before .before .before .before .before .before .before .before .before .before .before .before .before .pre)) (c .before .before .before .before .q .given .1) (writes-by (plain (c .refuse .ensures)) (list-wrong _ _ _ _ (methodOf (c .before .before .before .before .before .before .before .before .before .before .before .before .before .before .before .before .before .before .args .m)) (c .before .before .before .before .before .before .before .before .before .before .before .before .before .before .before .before .before .before .args .closes) _ (c .before .before .match2 .keys2)))
+returns-2 t c = args-open _ _ _ _ _ (methodOf (c .before .before .before .before .before .before .before .before .before .before .before .before .before .before .before .before .before .before .before .args .m)) (c .before .before .before .before .before .before .before .before .before .before .before .before .before .before .before .before .before .before .before .args .closes) _ (c .before .before .before .before .before .before .before .before .before .before .before .before .no-arguments .ensures) (c .before .before .before .before .before .before .before .before .before .before .before .if1 .left) _ (c .before .before .before .before .before .before .before .before .open-type .ensures) (c .before .before .before .before .before .before .before .before .before .before .before .before .before .before .before .before .before .before .before .pre .1 .0) (omega (arith, c .before .before .before .before .before .before .before .before .before .before .before .before .before .before .before .before .before .before .before .pre)) (c .before .before .before .before .q .given .1) (writes-by (plain (c .refuse .ensures)) (list-wrong _ _ _ _ (methodOf (c .before .before .before .before .before .before .before .before .before .before .before .before .before .before .before .before .before .before .before .args .m)) (c .before .before .before .before .before .before .before .before .before .before .before .before .before .before .before .before .before .before .before .args .closes) _ (c .before .before .match2 .keys2)))
 
 args-requires : (t : ℕ) → lts.Need-args-requires (claims t) (emit-method-args-at t) emit-method-args.Post
-args-requires t c κs = (omega (arith, type-in (c .before .before .before .before .before .before .before .before .before .before .open-type .ensures) (c .before .before .before .before .before .before .before .before .before .before .before .before .before .before .before .before .before .before .before .before .pre .1 .0) (omega (arith, c .before .before .before .before .before .before .before .before .before .before .before .before .before .before .before .before .before .before .before .before .pre)) (c .before .before .before .before .before .before .q .given .1) .0 .next, c .before .before .before .before .before .before .before .before .before .before .before .before .before .before .before .before .before .before .before .before .pre), (type-in (c .before .before .before .before .before .before .before .before .before .before .open-type .ensures) (c .before .before .before .before .before .before .before .before .before .before .before .before .before .before .before .before .before .before .before .before .pre .1 .0) (omega (arith, c .before .before .before .before .before .before .before .before .before .before .before .before .before .before .before .before .before .before .before .before .pre)) (c .before .before .before .before .before .before .q .given .1) .0 .all, omega (arith, type-in (c .before .before .before .before .before .before .before .before .before .before .open-type .ensures) (c .before .before .before .before .before .before .before .before .before .before .before .before .before .before .before .before .before .before .before .before .pre .1 .0) (omega (arith, c .before .before .before .before .before .before .before .before .before .before .before .before .before .before .before .before .before .before .before .before .pre)) (c .before .before .before .before .before .before .q .given .1) .0 .next, c .before .before .before .before .before .before .before .before .before .before .before .before .before .before .before .before .before .before .before .before .pre)))
+args-requires t c κs = (omega (arith, type-in (c .before .before .before .before .before .before .before .before .before .before .open-type .ensures) (c .before .before .before .before .before .before .before .before .before .before .before .before .before .before .before .before .before .before .before .before .before .pre .1 .0) (omega (arith, c .before .before .before .before .before .before .before .before .before .before .before .before .before .before .before .before .before .before .before .before .before .pre)) (c .before .before .before .before .before .before .q .given .1) .0 .next, c .before .before .before .before .before .before .before .before .before .before .before .before .before .before .before .before .before .before .before .before .before .pre), (type-in (c .before .before .before .before .before .before .before .before .before .before .open-type .ensures) (c .before .before .before .before .before .before .before .before .before .before .before .before .before .before .before .before .before .before .before .before .before .pre .1 .0) (omega (arith, c .before .before .before .before .before .before .before .before .before .before .before .before .before .before .before .before .before .before .before .before .before .pre)) (c .before .before .before .before .before .before .q .given .1) .0 .all, omega (arith, type-in (c .before .before .before .before .before .before .before .before .before .before .open-type .ensures) (c .before .before .before .before .before .before .before .before .before .before .before .before .before .before .before .before .before .before .before .before .before .pre .1 .0) (omega (arith, c .before .before .before .before .before .before .before .before .before .before .before .before .before .before .before .before .before .before .before .before .before .pre)) (c .before .before .before .before .before .before .q .given .1) .0 .next, c .before .before .before .before .before .before .before .before .before .before .before .before .before .before .before .before .before .before .before .before .before .pre)))
 
 enum-known-q-2 : (t : ℕ) → lts.Need-enum-known-q-2 (claims t) (emit-method-args-at t) emit-method-args.Post
 enum-known-q-2 t c = search needs
 
 returns-3 : (t : ℕ) → lts.Need-returns-3 (claims t) (emit-method-args-at t) emit-method-args.Post
-returns-3 t c = args-open _ _ _ _ _ (methodOf (c .before .before .before .before .before .before .before .before .before .before .before .before .before .before .before .before .before .before .before .before .before .before .before .before .before .args .m)) (c .before .before .before .before .before .before .before .before .before .before .before .before .before .before .before .before .before .before .before .before .before .before .before .before .before .args .closes) _ (c .before .before .before .before .before .before .before .before .before .before .before .before .before .before .before .before .before .before .before .before .no-arguments .ensures) (c .before .before .before .before .before .before .before .before .before .before .before .before .before .before .before .before .before .before .before .if1 .left) _ (c .before .before .before .before .before .before .before .before .before .before .before .before .before .before .before .open-type .ensures) (c .before .before .before .before .before .before .before .before .before .before .before .before .before .before .before .before .before .before .before .before .before .before .before .before .before .pre .1 .0) (omega (arith, c .before .before .before .before .before .before .before .before .before .before .before .before .before .before .before .before .before .before .before .before .before .before .before .before .before .pre)) (c .before .before .before .before .before .before .before .before .before .before .before .q .given .1) (writes-by (c .before .before .before .before .args2 .ensures) (list-right _ _ _ _ (methodOf (c .before .before .before .before .before .before .before .before .before .before .before .before .before .before .before .before .before .before .before .before .before .before .before .before .before .args .m)) (c .before .before .before .before .before .before .before .before .before .before .before .before .before .before .before .before .before .before .before .before .before .before .before .before .before .args .closes) _ _ (c .before .before .before .before .before .before .before .before .t .given .1)))
+returns-3 t c = args-open _ _ _ _ _ (methodOf (c .before .before .before .before .before .before .before .before .before .before .before .before .before .before .before .before .before .before .before .before .before .before .before .before .before .before .args .m)) (c .before .before .before .before .before .before .before .before .before .before .before .before .before .before .before .before .before .before .before .before .before .before .before .before .before .before .args .closes) _ (c .before .before .before .before .before .before .before .before .before .before .before .before .before .before .before .before .before .before .before .no-arguments .ensures) (c .before .before .before .before .before .before .before .before .before .before .before .before .before .before .before .before .before .before .if1 .left) _ (c .before .before .before .before .before .before .before .before .before .before .before .before .before .before .before .open-type .ensures) (c .before .before .before .before .before .before .before .before .before .before .before .before .before .before .before .before .before .before .before .before .before .before .before .before .before .before .pre .1 .0) (omega (arith, c .before .before .before .before .before .before .before .before .before .before .before .before .before .before .before .before .before .before .before .before .before .before .before .before .before .before .pre)) (c .before .before .before .before .before .before .before .before .before .before .before .q .given .1) (writes-by (c .before .before .before .before .args2 .ensures) (list-right _ _ _ _ (methodOf (c .before .before .before .before .before .before .before .before .before .before .before .before .before .before .before .before .before .before .before .before .before .before .before .before .before .before .args .m)) (c .before .before .before .before .before .before .before .before .before .before .before .before .before .before .before .before .before .before .before .before .before .before .before .before .before .before .args .closes) _ _ (c .before .before .before .before .before .before .before .before .t .given .1)))
 
 returns-4 : (t : ℕ) → lts.Need-returns-4 (claims t) (emit-method-args-at t) emit-method-args.Post
-returns-4 t c = args-stopped _ _ _ _ _ (methodOf (c .before .before .before .before .before .before .before .before .before .before .before .before .before .before .before .args .m)) (c .before .before .before .before .before .before .before .before .before .before .before .before .before .before .before .args .closes) _ (c .before .before .before .before .before .before .before .before .before .before .no-arguments .ensures) (c .before .before .before .before .before .before .before .before .before .if1 .left) _ (c .before .before .before .before .before .open-type .ensures) (c .before .before .before .before .before .before .before .before .before .before .before .before .before .before .before .pre .1 .0) (omega (arith, c .before .before .before .before .before .before .before .before .before .before .before .before .before .before .before .pre)) (c .before .q2 .given .1)
+returns-4 t c = args-stopped _ _ _ _ _ (methodOf (c .before .before .before .before .before .before .before .before .before .before .before .before .before .before .before .before .args .m)) (c .before .before .before .before .before .before .before .before .before .before .before .before .before .before .before .before .args .closes) _ (c .before .before .before .before .before .before .before .before .before .no-arguments .ensures) (c .before .before .before .before .before .before .before .before .if1 .left) _ (c .before .before .before .before .before .open-type .ensures) (c .before .before .before .before .before .before .before .before .before .before .before .before .before .before .before .before .pre .1 .0) (omega (arith, c .before .before .before .before .before .before .before .before .before .before .before .before .before .before .before .before .pre)) (c .before .q2 .given .1)
 
 same-length : (t : ℕ) → lts.Need-same-length (claims t) (emit-method-args-at t) emit-method-args.Post
 same-length t c = writes-length (returns-2 t c)

@@ -22,7 +22,7 @@ abbrev claims : ℕ → lts.Claims
 claims t = (open-type-reads.Asked, open-type-reads.Learnt, no-levels-reads.Asked, no-levels-reads.Learnt, either-reads.Asked, either-reads.Learnt, aim-reads.Asked, aim-reads.Learnt, emit-ptr-below t, emit-ptr.Post, emit-primitive-reads.Asked, emit-primitive-reads.Learnt, text-if-reads.Asked, text-if-reads.Learnt, emit-type-below t, emit-type.Post)
 
 open-type-requires : (t : ℕ) → lts.Need-open-type-requires (claims t) (emit-modifier-at t) emit-modifier.Post
-open-type-requires t c κs = search (c .before .before .before .before .before .before .fits, c .before .before .before .before .before .before .pre, needs)
+open-type-requires t c κs = search (c .before .before .before .before .before .before .before .fits, c .before .before .before .before .before .before .before .pre, needs)
 
 enum-known-q : (t : ℕ) → lts.Need-enum-known-q (claims t) (emit-modifier-at t) emit-modifier.Post
 enum-known-q t c = search needs
@@ -31,46 +31,46 @@ enum-known-t : (t : ℕ) → lts.Need-enum-known-t (claims t) (emit-modifier-at 
 enum-known-t t c = search needs
 
 no-levels-requires : (t : ℕ) → lts.Need-no-levels-requires (claims t) (emit-modifier-at t) emit-modifier.Post
-no-levels-requires t c κs = search (c .before .before .before .match2, c .before .before .before .before .before .before .match, c .before .before .before .before .before .before .before .before .before .before .before .before .before .before .before .before .fits, c .before .before .before .before .before .before .before .before .before .before .before .before .before .before .before .before .pre, c .before .before .before .before .before .before .before .before .before .open-type .ensures, needs)
+no-levels-requires t c κs = search (c .before .before .before .match2, c .before .before .before .before .before .before .match, c .before .before .before .before .before .before .before .before .before .before .before .before .before .before .before .before .before .fits, c .before .before .before .before .before .before .before .before .before .before .before .before .before .before .before .before .before .pre, c .before .before .before .before .before .before .before .before .before .open-type .ensures, needs)
 
 either-requires : (t : ℕ) → lts.Need-either-requires (claims t) (emit-modifier-at t) emit-modifier.Post
-either-requires t c κs = search (c .before .before .before .before .match2, c .before .before .before .before .before .before .before .match, c .before .before .before .before .before .before .before .before .before .before .before .before .before .before .before .before .before .fits, c .before .before .before .before .before .before .before .before .before .before .before .before .before .before .before .before .before .pre, c .no-levels .ensures, c .before .before .before .before .before .before .before .before .before .before .open-type .ensures, needs)
+either-requires t c κs = search (c .before .before .before .before .match2, c .before .before .before .before .before .before .before .match, c .before .before .before .before .before .before .before .before .before .before .before .before .before .before .before .before .before .before .fits, c .before .before .before .before .before .before .before .before .before .before .before .before .before .before .before .before .before .before .pre, c .no-levels .ensures, c .before .before .before .before .before .before .before .before .before .before .open-type .ensures, needs)
 
 aim-requires : (t : ℕ) → lts.Need-aim-requires (claims t) (emit-modifier-at t) emit-modifier.Post
-aim-requires t c κs = search (c .before .before .before .before .before .match2, c .before .before .before .before .before .before .before .before .match, c .before .before .before .before .before .before .before .before .before .before .before .before .before .before .before .before .before .before .fits, c .before .before .before .before .before .before .before .before .before .before .before .before .before .before .before .before .before .before .pre, c .either .ensures, c .before .no-levels .ensures, c .before .before .before .before .before .before .before .before .before .before .before .open-type .ensures, needs)
+aim-requires t c κs = search (c .before .before .before .before .before .match2, c .before .before .before .before .before .before .before .before .match, c .before .before .before .before .before .before .before .before .before .before .before .before .before .before .before .before .before .before .before .fits, c .before .before .before .before .before .before .before .before .before .before .before .before .before .before .before .before .before .before .before .pre, c .either .ensures, c .before .no-levels .ensures, c .before .before .before .before .before .before .before .before .before .before .before .open-type .ensures, needs)
 
 emit-ptr-requires : (t : ℕ) → lts.Need-emit-ptr-requires (claims t) (emit-modifier-at t) emit-modifier.Post
-emit-ptr-requires t c κs = (omega (arith, type-in (c .before .before .before .before .before .before .before .before .before .before .before .before .before .before .open-type .ensures) (c .before .before .before .before .before .before .before .before .before .before .before .before .before .before .before .before .before .before .before .before .before .pre .1 .0) (omega (arith, c .before .before .before .before .before .before .before .before .before .before .before .before .before .before .before .before .before .before .before .before .before .pre)) (c .before .before .before .before .before .before .before .before .before .before .q .given .1) .0 .next, c .before .before .before .before .before .before .before .before .before .before .before .before .before .before .before .before .before .before .before .before .before .pre), (type-in (c .before .before .before .before .before .before .before .before .before .before .before .before .before .before .open-type .ensures) (c .before .before .before .before .before .before .before .before .before .before .before .before .before .before .before .before .before .before .before .before .before .pre .1 .0) (omega (arith, c .before .before .before .before .before .before .before .before .before .before .before .before .before .before .before .before .before .before .before .before .before .pre)) (c .before .before .before .before .before .before .before .before .before .before .q .given .1) .0 .all, omega (arith, type-in (c .before .before .before .before .before .before .before .before .before .before .before .before .before .before .open-type .ensures) (c .before .before .before .before .before .before .before .before .before .before .before .before .before .before .before .before .before .before .before .before .before .pre .1 .0) (omega (arith, c .before .before .before .before .before .before .before .before .before .before .before .before .before .before .before .before .before .before .before .before .before .pre)) (c .before .before .before .before .before .before .before .before .before .before .q .given .1) .0 .next, c .before .before .aim .ensures .0, c .before .before .before .before .no-levels .ensures .left, c .before .before .before .before .before .before .before .before .before .before .before .before .before .before .before .before .before .before .before .before .before .pre), omega (arith, c .before .before .aim .ensures .0, c .before .before .before .before .no-levels .ensures .left)))
+emit-ptr-requires t c κs = (omega (arith, type-in (c .before .before .before .before .before .before .before .before .before .before .before .before .before .before .open-type .ensures) (c .before .before .before .before .before .before .before .before .before .before .before .before .before .before .before .before .before .before .before .before .before .before .pre .1 .0) (omega (arith, c .before .before .before .before .before .before .before .before .before .before .before .before .before .before .before .before .before .before .before .before .before .before .pre)) (c .before .before .before .before .before .before .before .before .before .before .q .given .1) .0 .next, c .before .before .before .before .before .before .before .before .before .before .before .before .before .before .before .before .before .before .before .before .before .before .pre), (type-in (c .before .before .before .before .before .before .before .before .before .before .before .before .before .before .open-type .ensures) (c .before .before .before .before .before .before .before .before .before .before .before .before .before .before .before .before .before .before .before .before .before .before .pre .1 .0) (omega (arith, c .before .before .before .before .before .before .before .before .before .before .before .before .before .before .before .before .before .before .before .before .before .before .pre)) (c .before .before .before .before .before .before .before .before .before .before .q .given .1) .0 .all, omega (arith, type-in (c .before .before .before .before .before .before .before .before .before .before .before .before .before .before .open-type .ensures) (c .before .before .before .before .before .before .before .before .before .before .before .before .before .before .before .before .before .before .before .before .before .before .pre .1 .0) (omega (arith, c .before .before .before .before .before .before .before .before .before .before .before .before .before .before .before .before .before .before .before .before .before .before .pre)) (c .before .before .before .before .before .before .before .before .before .before .q .given .1) .0 .next, c .before .before .aim .ensures .0, c .before .before .before .before .no-levels .ensures .left, c .before .before .before .before .before .before .before .before .before .before .before .before .before .before .before .before .before .before .before .before .before .before .pre), omega (arith, c .before .before .aim .ensures .0, c .before .before .before .before .no-levels .ensures .left)))
 
 enum-known-t-2 : (t : ℕ) → lts.Need-enum-known-t-2 (claims t) (emit-modifier-at t) emit-modifier.Post
 enum-known-t-2 t c = search needs
 
 emit-primitive-requires : (t : ℕ) → lts.Need-emit-primitive-requires (claims t) (emit-modifier-at t) emit-modifier.Post
-emit-primitive-requires t c κs = search (c .before .before .before .match2, c .before .before .before .before .before .before .match, c .before .before .before .before .before .before .before .before .before .before .before .before .before .before .before .before .fits, c .before .before .before .before .before .before .before .before .before .before .before .before .before .before .before .before .pre, c .before .before .before .before .before .before .before .before .before .open-type .ensures, needs)
+emit-primitive-requires t c κs = search (c .before .before .before .match2, c .before .before .before .before .before .before .match, c .before .before .before .before .before .before .before .before .before .before .before .before .before .before .before .before .before .fits, c .before .before .before .before .before .before .before .before .before .before .before .before .before .before .before .before .before .pre, c .before .before .before .before .before .before .before .before .before .open-type .ensures, needs)
 
 slice-aggregate-text-if : (t : ℕ) → lts.Need-slice-aggregate-text-if (claims t) (emit-modifier-at t) emit-modifier.Post
 slice-aggregate-text-if t c = search needs
 
 text-if-requires : (t : ℕ) → lts.Need-text-if-requires (claims t) (emit-modifier-at t) emit-modifier.Post
-text-if-requires t c κs = search (c .before .before .match2, c .before .before .before .before .before .match, c .before .before .before .before .before .before .before .before .before .before .before .before .before .before .before .fits, c .before .before .before .before .before .before .before .before .before .before .before .before .before .before .before .pre, c .before .before .before .before .before .before .before .before .open-type .ensures, needs)
+text-if-requires t c κs = search (c .before .before .match2, c .before .before .before .before .before .match, c .before .before .before .before .before .before .before .before .before .before .before .before .before .before .before .before .fits, c .before .before .before .before .before .before .before .before .before .before .before .before .before .before .before .before .pre, c .before .before .before .before .before .before .before .before .open-type .ensures, needs)
 
 emit-type-requires : (t : ℕ) → lts.Need-emit-type-requires (claims t) (emit-modifier-at t) emit-modifier.Post
-emit-type-requires t c κs = (omega (arith, type-in (c .before .before .before .before .before .before .before .before .before .before .before .before .before .open-type .ensures) (c .before .before .before .before .before .before .before .before .before .before .before .before .before .before .before .before .before .before .before .before .pre .1 .0) (omega (arith, c .before .before .before .before .before .before .before .before .before .before .before .before .before .before .before .before .before .before .before .before .pre)) (c .before .before .before .before .before .before .before .before .before .q .given .1) .0 .next, arrayed-low (c .before .before .before .before .before .before .before .before .before .q .given .0 .1 .1 .0), c .before .before .before .before .before .before .before .before .before .before .before .before .before .before .before .before .before .before .before .before .pre), (type-in (c .before .before .before .before .before .before .before .before .before .before .before .before .before .open-type .ensures) (c .before .before .before .before .before .before .before .before .before .before .before .before .before .before .before .before .before .before .before .before .pre .1 .0) (omega (arith, c .before .before .before .before .before .before .before .before .before .before .before .before .before .before .before .before .before .before .before .before .pre)) (c .before .before .before .before .before .before .before .before .before .q .given .1) .0 .all, omega (arith, type-in (c .before .before .before .before .before .before .before .before .before .before .before .before .before .open-type .ensures) (c .before .before .before .before .before .before .before .before .before .before .before .before .before .before .before .before .before .before .before .before .pre .1 .0) (omega (arith, c .before .before .before .before .before .before .before .before .before .before .before .before .before .before .before .before .before .before .before .before .pre)) (c .before .before .before .before .before .before .before .before .before .q .given .1) .0 .next, c .before .before .before .before .before .before .before .before .before .before .before .before .before .before .before .before .before .before .before .before .pre)))
+emit-type-requires t c κs = (omega (arith, type-in (c .before .before .before .before .before .before .before .before .before .before .before .before .before .open-type .ensures) (c .before .before .before .before .before .before .before .before .before .before .before .before .before .before .before .before .before .before .before .before .before .pre .1 .0) (omega (arith, c .before .before .before .before .before .before .before .before .before .before .before .before .before .before .before .before .before .before .before .before .before .pre)) (c .before .before .before .before .before .before .before .before .before .q .given .1) .0 .next, arrayed-low (c .before .before .before .before .before .before .before .before .before .q .given .0 .1 .1 .0), c .before .before .before .before .before .before .before .before .before .before .before .before .before .before .before .before .before .before .before .before .before .pre), (type-in (c .before .before .before .before .before .before .before .before .before .before .before .before .before .open-type .ensures) (c .before .before .before .before .before .before .before .before .before .before .before .before .before .before .before .before .before .before .before .before .before .pre .1 .0) (omega (arith, c .before .before .before .before .before .before .before .before .before .before .before .before .before .before .before .before .before .before .before .before .before .pre)) (c .before .before .before .before .before .before .before .before .before .q .given .1) .0 .all, omega (arith, type-in (c .before .before .before .before .before .before .before .before .before .before .before .before .before .open-type .ensures) (c .before .before .before .before .before .before .before .before .before .before .before .before .before .before .before .before .before .before .before .before .before .pre .1 .0) (omega (arith, c .before .before .before .before .before .before .before .before .before .before .before .before .before .before .before .before .before .before .before .before .before .pre)) (c .before .before .before .before .before .before .before .before .before .q .given .1) .0 .next, c .before .before .before .before .before .before .before .before .before .before .before .before .before .before .before .before .before .before .before .before .before .pre)))
 
 enum-known-q-2 : (t : ℕ) → lts.Need-enum-known-q-2 (claims t) (emit-modifier-at t) emit-modifier.Post
 enum-known-q-2 t c = search needs
 
 returns : (t : ℕ) → lts.Need-returns (claims t) (emit-modifier-at t) emit-modifier.Post
-returns t c = modified-open _ _ _ _ _ _ (c .before .before .before .before .before .before .before .before .before .before .before .before .before .before .before .before .before .before .before .before .before .before .before .before .before .before .args .constant) _ (c .before .before .before .before .before .before .before .before .before .before .before .before .before .before .before .before .before .before .before .open-type .ensures) (c .before .before .before .before .before .before .before .before .before .before .before .before .before .before .before .before .before .before .before .before .before .before .before .before .before .before .pre .1 .0) (omega (arith, c .before .before .before .before .before .before .before .before .before .before .before .before .before .before .before .before .before .before .before .before .before .before .before .before .before .before .pre)) (c .before .before .before .before .before .before .before .before .before .before .before .before .before .before .before .q .given .1) (writes-by (c .before .before .before .before .emit-ptr .ensures) (modified-pointer _ _ _ _ (c .before .before .before .before .before .before .before .before .before .before .before .before .before .before .before .before .before .before .before .before .before .before .before .before .before .before .args .constant) _ _ _ _ _ (c .before .before .before .before .before .before .before .before .before .before .before .before .t .given .1) (c .before .before .before .before .before .before .before .before .either .ensures) (c .before .before .before .before .before .before .before .before .before .no-levels .ensures .levels) (c .before .before .before .before .before .before .before .aim .ensures .1)))
+returns t c = modified-open _ _ _ _ _ _ (c .before .before .before .before .before .before .before .before .before .before .before .before .before .before .before .before .before .before .before .before .before .before .before .before .before .before .before .args .constant) _ (c .before .before .before .before .before .before .before .before .before .before .before .before .before .before .before .before .before .before .before .open-type .ensures) (c .before .before .before .before .before .before .before .before .before .before .before .before .before .before .before .before .before .before .before .before .before .before .before .before .before .before .before .pre .1 .0) (omega (arith, c .before .before .before .before .before .before .before .before .before .before .before .before .before .before .before .before .before .before .before .before .before .before .before .before .before .before .before .pre)) (c .before .before .before .before .before .before .before .before .before .before .before .before .before .before .before .q .given .1) (writes-by (c .before .before .before .before .emit-ptr .ensures) (modified-pointer _ _ _ _ (c .before .before .before .before .before .before .before .before .before .before .before .before .before .before .before .before .before .before .before .before .before .before .before .before .before .before .before .args .constant) _ _ _ _ _ (c .before .before .before .before .before .before .before .before .before .before .before .before .t .given .1) (c .before .before .before .before .before .before .before .before .either .ensures) (c .before .before .before .before .before .before .before .before .before .no-levels .ensures .levels) (c .before .before .before .before .before .before .before .aim .ensures .1)))
 
 returns-2 : (t : ℕ) → lts.Need-returns-2 (claims t) (emit-modifier-at t) emit-modifier.Post
-returns-2 t c = modified-open _ _ _ _ _ _ (c .before .before .before .before .before .before .before .before .before .before .before .before .before .before .before .before .before .before .before .args .constant) _ (c .before .before .before .before .before .before .before .before .before .before .before .before .open-type .ensures) (c .before .before .before .before .before .before .before .before .before .before .before .before .before .before .before .before .before .before .before .pre .1 .0) (omega (arith, c .before .before .before .before .before .before .before .before .before .before .before .before .before .before .before .before .before .before .before .pre)) (c .before .before .before .before .before .before .before .before .q .given .1) (writes-by (plain (c .before .before .emit-primitive .ensures)) (modified-primitive _ _ _ _ (c .before .before .before .before .before .before .before .before .before .before .before .before .before .before .before .before .before .before .before .args .constant) _ _ (c .before .before .before .before .before .t2 .given .1)))
+returns-2 t c = modified-open _ _ _ _ _ _ (c .before .before .before .before .before .before .before .before .before .before .before .before .before .before .before .before .before .before .before .before .args .constant) _ (c .before .before .before .before .before .before .before .before .before .before .before .before .open-type .ensures) (c .before .before .before .before .before .before .before .before .before .before .before .before .before .before .before .before .before .before .before .before .pre .1 .0) (omega (arith, c .before .before .before .before .before .before .before .before .before .before .before .before .before .before .before .before .before .before .before .before .pre)) (c .before .before .before .before .before .before .before .before .q .given .1) (writes-by (plain (c .before .before .emit-primitive .ensures)) (modified-primitive _ _ _ _ (c .before .before .before .before .before .before .before .before .before .before .before .before .before .before .before .before .before .before .before .before .args .constant) _ _ (c .before .before .before .before .before .t2 .given .1)))
 
 returns-3 : (t : ℕ) → lts.Need-returns-3 (claims t) (emit-modifier-at t) emit-modifier.Post
-returns-3 t c = modified-open _ _ _ _ _ _ (c .before .before .before .before .before .before .before .before .before .before .before .before .before .before .before .before .before .before .before .before .before .before .before .before .before .args .constant) _ (c .before .before .before .before .before .before .before .before .before .before .before .before .before .before .before .before .before .before .open-type .ensures) (c .before .before .before .before .before .before .before .before .before .before .before .before .before .before .before .before .before .before .before .before .before .before .before .before .before .pre .1 .0) (omega (arith, c .before .before .before .before .before .before .before .before .before .before .before .before .before .before .before .before .before .before .before .before .before .before .before .before .before .pre)) (c .before .before .before .before .before .before .before .before .before .before .before .before .before .before .q .given .1) (writes-by (plain (c .before .before .before .before .before .before .before .before .before .text-if .ensures) ▸▸ c .before .before .before .before .emit-type .ensures) (modified-plain _ _ _ _ (c .before .before .before .before .before .before .before .before .before .before .before .before .before .before .before .before .before .before .before .before .before .before .before .before .before .args .constant) _ (c .before .before .before .before .before .before .before .before .before .before .before .before .match2 .keys3)))
+returns-3 t c = modified-open _ _ _ _ _ _ (c .before .before .before .before .before .before .before .before .before .before .before .before .before .before .before .before .before .before .before .before .before .before .before .before .before .before .args .constant) _ (c .before .before .before .before .before .before .before .before .before .before .before .before .before .before .before .before .before .before .open-type .ensures) (c .before .before .before .before .before .before .before .before .before .before .before .before .before .before .before .before .before .before .before .before .before .before .before .before .before .before .pre .1 .0) (omega (arith, c .before .before .before .before .before .before .before .before .before .before .before .before .before .before .before .before .before .before .before .before .before .before .before .before .before .before .pre)) (c .before .before .before .before .before .before .before .before .before .before .before .before .before .before .q .given .1) (writes-by (plain (c .before .before .before .before .before .before .before .before .before .text-if .ensures) ▸▸ c .before .before .before .before .emit-type .ensures) (modified-plain _ _ _ _ (c .before .before .before .before .before .before .before .before .before .before .before .before .before .before .before .before .before .before .before .before .before .before .before .before .before .before .args .constant) _ (c .before .before .before .before .before .before .before .before .before .before .before .before .match2 .keys3)))
 
 returns-4 : (t : ℕ) → lts.Need-returns-4 (claims t) (emit-modifier-at t) emit-modifier.Post
-returns-4 t c = modified-stopped _ _ _ _ _ _ (c .before .before .before .before .before .before .before .before .before .before .before .before .args .constant) _ (c .before .before .before .before .before .open-type .ensures) (c .before .before .before .before .before .before .before .before .before .before .before .before .pre .1 .0) (omega (arith, c .before .before .before .before .before .before .before .before .before .before .before .before .pre)) (c .before .q2 .given .1)
+returns-4 t c = modified-stopped _ _ _ _ _ _ (c .before .before .before .before .before .before .before .before .before .before .before .before .before .args .constant) _ (c .before .before .before .before .before .open-type .ensures) (c .before .before .before .before .before .before .before .before .before .before .before .before .before .pre .1 .0) (omega (arith, c .before .before .before .before .before .before .before .before .before .before .before .before .before .pre)) (c .before .q2 .given .1)
 
 same-length : (t : ℕ) → lts.Need-same-length (claims t) (emit-modifier-at t) emit-modifier.Post
 same-length t c = writes-length (returns t c)

@@ -15,10 +15,10 @@ abbrev claims : ℕ → lts.Claims
 claims t = (emit-type-below t, emit-type.Post, emit-attributes-since-reads.Asked, emit-attributes-since-reads.Learnt)
 
 emit-type-requires : (t : ℕ) → lts.Need-emit-type-requires (claims t) (emit-other-ptr-at t) emit-other-ptr.Post
-emit-type-requires t c κs = (omega (arith, arrayed-low (c .before .before .before .before .before .before .args .t), c .before .before .before .before .before .before .pre), c .before .before .before .before .before .before .pre .1)
+emit-type-requires t c κs = (omega (arith, arrayed-low (c .before .before .before .before .before .before .before .before .args .t), c .before .before .before .before .before .before .before .before .pre), c .before .before .before .before .before .before .before .before .pre .1)
 
 emit-attributes-since-requires : (t : ℕ) → lts.Need-emit-attributes-since-requires (claims t) (emit-other-ptr-at t) emit-other-ptr.Post
-emit-attributes-since-requires t c κs = search (c .before .before .before .before .before .before .before .before .before .before .before .before .fits, c .before .before .before .before .before .before .before .before .before .before .before .before .pre, needs)
+emit-attributes-since-requires t c κs = search (c .before .before .before .before .before .before .before .before .before .before .before .before .before .before .fits, c .before .before .before .before .before .before .before .before .before .before .before .before .before .before .pre, needs)
 
 returns : (t : ℕ) → lts.Need-returns (claims t) (emit-other-ptr-at t) emit-other-ptr.Post
 returns t c = writes-by (writes-ending _ _ refl (c .before .before .before .before .before .before .before .before .emit-type .ensures) (c .before .before .emit-attributes-since .ensures)) (other-ptr-is _ _ _ _ _)

@@ -18,10 +18,10 @@ abbrev claims : ℕ → lts.Claims
 claims t = (way-to-reads.Asked, way-to-reads.Learnt, open-type-reads.Asked, open-type-reads.Learnt, aim-reads.Asked, aim-reads.Learnt, emit-ptr-below t, emit-ptr.Post, emit-ptr-helper-below t, emit-ptr-helper.Post, over-pointee-reads.Asked, over-pointee-reads.Learnt)
 
 way-to-requires : (t : ℕ) → lts.Need-way-to-requires (claims t) (emit-ptr-at t) emit-ptr.Post
-way-to-requires t c κs = search (c .before .before .before .before .before .fits, c .before .before .before .before .before .pre, needs)
+way-to-requires t c κs = search (c .before .before .before .before .before .before .fits, c .before .before .before .before .before .before .pre, needs)
 
 open-type-requires : (t : ℕ) → lts.Need-open-type-requires (claims t) (emit-ptr-at t) emit-ptr.Post
-open-type-requires t c κs = search (c .before .before .before .before .before .before .before .fits, c .before .before .before .before .before .before .before .pre, needs)
+open-type-requires t c κs = search (c .before .before .before .before .before .before .before .before .fits, c .before .before .before .before .before .before .before .before .pre, needs)
 
 enum-known-q : (t : ℕ) → lts.Need-enum-known-q (claims t) (emit-ptr-at t) emit-ptr.Post
 enum-known-q t c = search needs
@@ -30,43 +30,43 @@ enum-known-t : (t : ℕ) → lts.Need-enum-known-t (claims t) (emit-ptr-at t) em
 enum-known-t t c = search needs
 
 aim-requires : (t : ℕ) → lts.Need-aim-requires (claims t) (emit-ptr-at t) emit-ptr.Post
-aim-requires t c κs = (omega (arith, type-in (c .before .before .before .before .before .before .before .before .before .open-type .ensures) (c .before .before .before .before .before .before .before .before .before .before .before .before .before .before .before .before .before .pre .1 .0) (omega (arith, c .before .before .before .before .before .before .before .before .before .before .before .before .before .before .before .before .before .pre)) (c .before .before .before .before .before .q .given .1) .0 .next, c .before .before .before .before .before .before .before .before .before .before .before .before .before .before .before .before .before .pre), omega (arith, c .before .before .before .before .before .before .before .before .before .before .before .before .before .before .before .before .before .pre))
+aim-requires t c κs = (omega (arith, type-in (c .before .before .before .before .before .before .before .before .before .open-type .ensures) (c .before .before .before .before .before .before .before .before .before .before .before .before .before .before .before .before .before .before .pre .1 .0) (omega (arith, c .before .before .before .before .before .before .before .before .before .before .before .before .before .before .before .before .before .before .pre)) (c .before .before .before .before .before .q .given .1) .0 .next, c .before .before .before .before .before .before .before .before .before .before .before .before .before .before .before .before .before .before .pre), omega (arith, c .before .before .before .before .before .before .before .before .before .before .before .before .before .before .before .before .before .before .pre))
 
 emit-ptr-requires : (t : ℕ) → lts.Need-emit-ptr-requires (claims t) (emit-ptr-at t) emit-ptr.Post
-emit-ptr-requires t c κs = (omega (arith, type-in (c .before .before .before .before .before .before .before .before .before .before .before .before .open-type .ensures) (c .before .before .before .before .before .before .before .before .before .before .before .before .before .before .before .before .before .before .before .before .pre .1 .0) (omega (arith, c .before .before .before .before .before .before .before .before .before .before .before .before .before .before .before .before .before .before .before .before .pre)) (c .before .before .before .before .before .before .before .before .q .given .1) .0 .next, c .before .before .before .before .before .before .before .before .before .before .before .before .before .before .before .before .before .before .before .before .pre), (type-in (c .before .before .before .before .before .before .before .before .before .before .before .before .open-type .ensures) (c .before .before .before .before .before .before .before .before .before .before .before .before .before .before .before .before .before .before .before .before .pre .1 .0) (omega (arith, c .before .before .before .before .before .before .before .before .before .before .before .before .before .before .before .before .before .before .before .before .pre)) (c .before .before .before .before .before .before .before .before .q .given .1) .0 .all, omega (arith, type-in (c .before .before .before .before .before .before .before .before .before .before .before .before .open-type .ensures) (c .before .before .before .before .before .before .before .before .before .before .before .before .before .before .before .before .before .before .before .before .pre .1 .0) (omega (arith, c .before .before .before .before .before .before .before .before .before .before .before .before .before .before .before .before .before .before .before .before .pre)) (c .before .before .before .before .before .before .before .before .q .given .1) .0 .next, c .before .before .aim .ensures .0, c .before .before .before .before .before .before .before .before .before .before .before .before .before .before .before .before .before .before .before .before .pre), omega (arith, c .before .before .aim .ensures .0, c .before .before .before .before .before .before .before .before .before .before .before .before .before .before .before .before .before .before .before .before .pre)))
+emit-ptr-requires t c κs = (omega (arith, type-in (c .before .before .before .before .before .before .before .before .before .before .before .before .open-type .ensures) (c .before .before .before .before .before .before .before .before .before .before .before .before .before .before .before .before .before .before .before .before .before .pre .1 .0) (omega (arith, c .before .before .before .before .before .before .before .before .before .before .before .before .before .before .before .before .before .before .before .before .before .pre)) (c .before .before .before .before .before .before .before .before .q .given .1) .0 .next, c .before .before .before .before .before .before .before .before .before .before .before .before .before .before .before .before .before .before .before .before .before .pre), (type-in (c .before .before .before .before .before .before .before .before .before .before .before .before .open-type .ensures) (c .before .before .before .before .before .before .before .before .before .before .before .before .before .before .before .before .before .before .before .before .before .pre .1 .0) (omega (arith, c .before .before .before .before .before .before .before .before .before .before .before .before .before .before .before .before .before .before .before .before .before .pre)) (c .before .before .before .before .before .before .before .before .q .given .1) .0 .all, omega (arith, type-in (c .before .before .before .before .before .before .before .before .before .before .before .before .open-type .ensures) (c .before .before .before .before .before .before .before .before .before .before .before .before .before .before .before .before .before .before .before .before .before .pre .1 .0) (omega (arith, c .before .before .before .before .before .before .before .before .before .before .before .before .before .before .before .before .before .before .before .before .before .pre)) (c .before .before .before .before .before .before .before .before .q .given .1) .0 .next, c .before .before .aim .ensures .0, c .before .before .before .before .before .before .before .before .before .before .before .before .before .before .before .before .before .before .before .before .before .pre), omega (arith, c .before .before .aim .ensures .0, c .before .before .before .before .before .before .before .before .before .before .before .before .before .before .before .before .before .before .before .before .before .pre)))
 
 enum-known-t-2 : (t : ℕ) → lts.Need-enum-known-t-2 (claims t) (emit-ptr-at t) emit-ptr.Post
 enum-known-t-2 t c = search needs
 
 emit-ptr-helper-requires : (t : ℕ) → lts.Need-emit-ptr-helper-requires (claims t) (emit-ptr-at t) emit-ptr.Post
-emit-ptr-helper-requires t c κs = (omega (arith, type-in (c .before .before .before .before .before .before .before .before .before .before .before .open-type .ensures) (c .before .before .before .before .before .before .before .before .before .before .before .before .before .before .before .before .before .before .before .pre .1 .0) (omega (arith, c .before .before .before .before .before .before .before .before .before .before .before .before .before .before .before .before .before .before .before .pre)) (c .before .before .before .before .before .before .before .q .given .1) .0 .next, c .before .before .before .before .before .before .before .before .before .before .before .before .before .before .before .before .before .before .before .pre), (type-in (c .before .before .before .before .before .before .before .before .before .before .before .open-type .ensures) (c .before .before .before .before .before .before .before .before .before .before .before .before .before .before .before .before .before .before .before .pre .1 .0) (omega (arith, c .before .before .before .before .before .before .before .before .before .before .before .before .before .before .before .before .before .before .before .pre)) (c .before .before .before .before .before .before .before .q .given .1) .0 .all, omega (arith, type-in (c .before .before .before .before .before .before .before .before .before .before .before .open-type .ensures) (c .before .before .before .before .before .before .before .before .before .before .before .before .before .before .before .before .before .before .before .pre .1 .0) (omega (arith, c .before .before .before .before .before .before .before .before .before .before .before .before .before .before .before .before .before .before .before .pre)) (c .before .before .before .before .before .before .before .q .given .1) .0 .next, c .before .before .before .before .before .before .before .before .before .before .before .before .before .before .before .before .before .before .before .pre)))
+emit-ptr-helper-requires t c κs = (omega (arith, type-in (c .before .before .before .before .before .before .before .before .before .before .before .open-type .ensures) (c .before .before .before .before .before .before .before .before .before .before .before .before .before .before .before .before .before .before .before .before .pre .1 .0) (omega (arith, c .before .before .before .before .before .before .before .before .before .before .before .before .before .before .before .before .before .before .before .before .pre)) (c .before .before .before .before .before .before .before .q .given .1) .0 .next, c .before .before .before .before .before .before .before .before .before .before .before .before .before .before .before .before .before .before .before .before .pre), (type-in (c .before .before .before .before .before .before .before .before .before .before .before .open-type .ensures) (c .before .before .before .before .before .before .before .before .before .before .before .before .before .before .before .before .before .before .before .before .pre .1 .0) (omega (arith, c .before .before .before .before .before .before .before .before .before .before .before .before .before .before .before .before .before .before .before .before .pre)) (c .before .before .before .before .before .before .before .q .given .1) .0 .all, omega (arith, type-in (c .before .before .before .before .before .before .before .before .before .before .before .open-type .ensures) (c .before .before .before .before .before .before .before .before .before .before .before .before .before .before .before .before .before .before .before .before .pre .1 .0) (omega (arith, c .before .before .before .before .before .before .before .before .before .before .before .before .before .before .before .before .before .before .before .before .pre)) (c .before .before .before .before .before .before .before .q .given .1) .0 .next, c .before .before .before .before .before .before .before .before .before .before .before .before .before .before .before .before .before .before .before .before .pre)))
 
 returns : (t : ℕ) → lts.Need-returns (claims t) (emit-ptr-at t) emit-ptr.Post
-returns t c = aimed-open _ _ _ _ _ (c .before .before .before .before .before .before .before .before .before .before .before .before .before .before .before .before .before .before .before .before .before .before .before .before .args .modified) _ _ _ (c .before .before .before .before .before .before .before .before .before .before .before .before .before .before .before .before .before .before .way-to .ensures) (c .before .before .before .before .before .before .before .before .before .before .before .before .before .before .before .before .open-type .ensures) (c .before .before .before .before .before .before .before .before .before .before .before .before .before .before .before .before .before .before .before .before .before .before .before .before .pre .1 .0) (omega (arith, c .before .before .before .before .before .before .before .before .before .before .before .before .before .before .before .before .before .before .before .before .before .before .before .before .pre)) (c .before .before .before .before .before .before .before .before .before .before .before .before .q .given .1) (writes-by (c .before .before .before .before .emit-ptr-helper .ensures) (aimed-twice _ _ _ _ _ _ (c .before .before .before .before .before .before .before .before .before .before .before .before .before .before .before .before .before .before .before .before .before .before .before .before .args .modified) _ (c .before .before .before .before .before .before .before .if1 .taken) (c .before .before .before .before .before .before .before .before .before .t2 .given .1)))
+returns t c = aimed-open _ _ _ _ _ (c .before .before .before .before .before .before .before .before .before .before .before .before .before .before .before .before .before .before .before .before .before .before .before .before .before .args .modified) _ _ _ (c .before .before .before .before .before .before .before .before .before .before .before .before .before .before .before .before .before .before .way-to .ensures) (c .before .before .before .before .before .before .before .before .before .before .before .before .before .before .before .before .open-type .ensures) (c .before .before .before .before .before .before .before .before .before .before .before .before .before .before .before .before .before .before .before .before .before .before .before .before .before .pre .1 .0) (omega (arith, c .before .before .before .before .before .before .before .before .before .before .before .before .before .before .before .before .before .before .before .before .before .before .before .before .before .pre)) (c .before .before .before .before .before .before .before .before .before .before .before .before .q .given .1) (writes-by (c .before .before .before .before .emit-ptr-helper .ensures) (aimed-twice _ _ _ _ _ _ (c .before .before .before .before .before .before .before .before .before .before .before .before .before .before .before .before .before .before .before .before .before .before .before .before .before .args .modified) _ (c .before .before .before .before .before .before .before .if1 .taken) (c .before .before .before .before .before .before .before .before .before .t2 .given .1)))
 
 over-pointee-requires : (t : ℕ) → lts.Need-over-pointee-requires (claims t) (emit-ptr-at t) emit-ptr.Post
-over-pointee-requires t c κs = search (c .before .if1, c .before .before .before .before .match2, c .before .before .before .before .before .before .before .match, c .before .before .before .before .before .before .before .before .before .before .before .before .before .before .before .before .before .before .fits, c .before .before .before .before .before .before .before .before .before .before .before .before .before .before .before .before .before .before .pre, c .before .before .before .before .before .before .before .before .before .before .open-type .ensures, needs)
+over-pointee-requires t c κs = search (c .before .if1, c .before .before .before .before .match2, c .before .before .before .before .before .before .before .match, c .before .before .before .before .before .before .before .before .before .before .before .before .before .before .before .before .before .before .before .fits, c .before .before .before .before .before .before .before .before .before .before .before .before .before .before .before .before .before .before .before .pre, c .before .before .before .before .before .before .before .before .before .before .open-type .ensures, needs)
 
 emit-ptr-requires-2 : (t : ℕ) → lts.Need-emit-ptr-requires-2 (claims t) (emit-ptr-at t) emit-ptr.Post
-emit-ptr-requires-2 t c κs = (omega (arith, type-in (c .before .before .before .before .before .before .before .before .before .before .before .before .before .open-type .ensures) (c .before .before .before .before .before .before .before .before .before .before .before .before .before .before .before .before .before .before .before .before .before .pre .1 .0) (omega (arith, c .before .before .before .before .before .before .before .before .before .before .before .before .before .before .before .before .before .before .before .before .before .pre)) (c .before .before .before .before .before .before .before .before .before .q .given .1) .0 .next, c .before .before .before .before .before .before .before .before .before .before .before .before .before .before .before .before .before .before .before .before .before .pre), (type-in (c .before .before .before .before .before .before .before .before .before .before .before .before .before .open-type .ensures) (c .before .before .before .before .before .before .before .before .before .before .before .before .before .before .before .before .before .before .before .before .before .pre .1 .0) (omega (arith, c .before .before .before .before .before .before .before .before .before .before .before .before .before .before .before .before .before .before .before .before .before .pre)) (c .before .before .before .before .before .before .before .before .before .q .given .1) .0 .all, omega (arith, type-in (c .before .before .before .before .before .before .before .before .before .before .before .before .before .open-type .ensures) (c .before .before .before .before .before .before .before .before .before .before .before .before .before .before .before .before .before .before .before .before .before .pre .1 .0) (omega (arith, c .before .before .before .before .before .before .before .before .before .before .before .before .before .before .before .before .before .before .before .before .before .pre)) (c .before .before .before .before .before .before .before .before .before .q .given .1) .0 .next, c .before .before .over-pointee .ensures .left, c .before .before .before .before .before .before .before .before .before .before .before .before .before .before .before .before .before .before .before .before .before .pre), omega (arith, c .before .before .over-pointee .ensures .left, c .before .before .before .before .before .before .before .before .before .before .before .before .before .before .before .before .before .before .before .before .before .pre)))
+emit-ptr-requires-2 t c κs = (omega (arith, type-in (c .before .before .before .before .before .before .before .before .before .before .before .before .before .open-type .ensures) (c .before .before .before .before .before .before .before .before .before .before .before .before .before .before .before .before .before .before .before .before .before .before .pre .1 .0) (omega (arith, c .before .before .before .before .before .before .before .before .before .before .before .before .before .before .before .before .before .before .before .before .before .before .pre)) (c .before .before .before .before .before .before .before .before .before .q .given .1) .0 .next, c .before .before .before .before .before .before .before .before .before .before .before .before .before .before .before .before .before .before .before .before .before .before .pre), (type-in (c .before .before .before .before .before .before .before .before .before .before .before .before .before .open-type .ensures) (c .before .before .before .before .before .before .before .before .before .before .before .before .before .before .before .before .before .before .before .before .before .before .pre .1 .0) (omega (arith, c .before .before .before .before .before .before .before .before .before .before .before .before .before .before .before .before .before .before .before .before .before .before .pre)) (c .before .before .before .before .before .before .before .before .before .q .given .1) .0 .all, omega (arith, type-in (c .before .before .before .before .before .before .before .before .before .before .before .before .before .open-type .ensures) (c .before .before .before .before .before .before .before .before .before .before .before .before .before .before .before .before .before .before .before .before .before .before .pre .1 .0) (omega (arith, c .before .before .before .before .before .before .before .before .before .before .before .before .before .before .before .before .before .before .before .before .before .before .pre)) (c .before .before .before .before .before .before .before .before .before .q .given .1) .0 .next, c .before .before .over-pointee .ensures .left, c .before .before .before .before .before .before .before .before .before .before .before .before .before .before .before .before .before .before .before .before .before .before .pre), omega (arith, c .before .before .over-pointee .ensures .left, c .before .before .before .before .before .before .before .before .before .before .before .before .before .before .before .before .before .before .before .before .before .before .pre)))
 
 emit-ptr-helper-requires-2 : (t : ℕ) → lts.Need-emit-ptr-helper-requires-2 (claims t) (emit-ptr-at t) emit-ptr.Post
-emit-ptr-helper-requires-2 t c κs = (omega (arith, type-in (c .before .before .before .before .before .before .before .before .open-type .ensures) (c .before .before .before .before .before .before .before .before .before .before .before .before .before .before .before .before .pre .1 .0) (omega (arith, c .before .before .before .before .before .before .before .before .before .before .before .before .before .before .before .before .pre)) (c .before .before .before .before .q .given .1) .0 .next, c .before .before .before .before .before .before .before .before .before .before .before .before .before .before .before .before .pre), (type-in (c .before .before .before .before .before .before .before .before .open-type .ensures) (c .before .before .before .before .before .before .before .before .before .before .before .before .before .before .before .before .pre .1 .0) (omega (arith, c .before .before .before .before .before .before .before .before .before .before .before .before .before .before .before .before .pre)) (c .before .before .before .before .q .given .1) .0 .all, omega (arith, type-in (c .before .before .before .before .before .before .before .before .open-type .ensures) (c .before .before .before .before .before .before .before .before .before .before .before .before .before .before .before .before .pre .1 .0) (omega (arith, c .before .before .before .before .before .before .before .before .before .before .before .before .before .before .before .before .pre)) (c .before .before .before .before .q .given .1) .0 .next, c .before .before .before .before .before .before .before .before .before .before .before .before .before .before .before .before .pre)))
+emit-ptr-helper-requires-2 t c κs = (omega (arith, type-in (c .before .before .before .before .before .before .before .before .open-type .ensures) (c .before .before .before .before .before .before .before .before .before .before .before .before .before .before .before .before .before .pre .1 .0) (omega (arith, c .before .before .before .before .before .before .before .before .before .before .before .before .before .before .before .before .before .pre)) (c .before .before .before .before .q .given .1) .0 .next, c .before .before .before .before .before .before .before .before .before .before .before .before .before .before .before .before .before .pre), (type-in (c .before .before .before .before .before .before .before .before .open-type .ensures) (c .before .before .before .before .before .before .before .before .before .before .before .before .before .before .before .before .before .pre .1 .0) (omega (arith, c .before .before .before .before .before .before .before .before .before .before .before .before .before .before .before .before .before .pre)) (c .before .before .before .before .q .given .1) .0 .all, omega (arith, type-in (c .before .before .before .before .before .before .before .before .open-type .ensures) (c .before .before .before .before .before .before .before .before .before .before .before .before .before .before .before .before .before .pre .1 .0) (omega (arith, c .before .before .before .before .before .before .before .before .before .before .before .before .before .before .before .before .before .pre)) (c .before .before .before .before .q .given .1) .0 .next, c .before .before .before .before .before .before .before .before .before .before .before .before .before .before .before .before .before .pre)))
 
 enum-known-q-2 : (t : ℕ) → lts.Need-enum-known-q-2 (claims t) (emit-ptr-at t) emit-ptr.Post
 enum-known-q-2 t c = search needs
 
 returns-2 : (t : ℕ) → lts.Need-returns-2 (claims t) (emit-ptr-at t) emit-ptr.Post
-returns-2 t c = aimed-open _ _ _ _ _ (c .before .before .before .before .before .before .before .before .before .before .before .before .before .before .before .before .before .before .before .before .before .before .before .before .before .args .modified) _ _ _ (c .before .before .before .before .before .before .before .before .before .before .before .before .before .before .before .before .before .before .before .way-to .ensures) (c .before .before .before .before .before .before .before .before .before .before .before .before .before .before .before .before .before .open-type .ensures) (c .before .before .before .before .before .before .before .before .before .before .before .before .before .before .before .before .before .before .before .before .before .before .before .before .before .pre .1 .0) (omega (arith, c .before .before .before .before .before .before .before .before .before .before .before .before .before .before .before .before .before .before .before .before .before .before .before .before .before .pre)) (c .before .before .before .before .before .before .before .before .before .before .before .before .before .q .given .1) (writes-by (c .before .before .before .before .emit-ptr .ensures) (aimed-pointer _ _ _ _ _ _ (c .before .before .before .before .before .before .before .before .before .before .before .before .before .before .before .before .before .before .before .before .before .before .before .before .before .args .modified) _ _ (c .before .before .before .before .before .before .before .before .before .before .t .given .1) (c .before .before .before .before .before .before .before .aim .ensures .1)))
+returns-2 t c = aimed-open _ _ _ _ _ (c .before .before .before .before .before .before .before .before .before .before .before .before .before .before .before .before .before .before .before .before .before .before .before .before .before .before .args .modified) _ _ _ (c .before .before .before .before .before .before .before .before .before .before .before .before .before .before .before .before .before .before .before .way-to .ensures) (c .before .before .before .before .before .before .before .before .before .before .before .before .before .before .before .before .before .open-type .ensures) (c .before .before .before .before .before .before .before .before .before .before .before .before .before .before .before .before .before .before .before .before .before .before .before .before .before .before .pre .1 .0) (omega (arith, c .before .before .before .before .before .before .before .before .before .before .before .before .before .before .before .before .before .before .before .before .before .before .before .before .before .before .pre)) (c .before .before .before .before .before .before .before .before .before .before .before .before .before .q .given .1) (writes-by (c .before .before .before .before .emit-ptr .ensures) (aimed-pointer _ _ _ _ _ _ (c .before .before .before .before .before .before .before .before .before .before .before .before .before .before .before .before .before .before .before .before .before .before .before .before .before .before .args .modified) _ _ (c .before .before .before .before .before .before .before .before .before .before .t .given .1) (c .before .before .before .before .before .before .before .aim .ensures .1)))
 
 returns-3 : (t : ℕ) → lts.Need-returns-3 (claims t) (emit-ptr-at t) emit-ptr.Post
-returns-3 t c = aimed-open _ _ _ _ _ (c .before .before .before .before .before .before .before .before .before .before .before .before .before .before .before .before .before .before .before .before .before .before .before .before .before .before .args .modified) _ _ _ (c .before .before .before .before .before .before .before .before .before .before .before .before .before .before .before .before .before .before .before .before .way-to .ensures) (c .before .before .before .before .before .before .before .before .before .before .before .before .before .before .before .before .before .before .open-type .ensures) (c .before .before .before .before .before .before .before .before .before .before .before .before .before .before .before .before .before .before .before .before .before .before .before .before .before .before .pre .1 .0) (omega (arith, c .before .before .before .before .before .before .before .before .before .before .before .before .before .before .before .before .before .before .before .before .before .before .before .before .before .before .pre)) (c .before .before .before .before .before .before .before .before .before .before .before .before .before .before .q .given .1) (writes-by (c .before .before .before .before .emit-ptr2 .ensures) (aimed-modifier _ _ _ _ _ _ _ _ _ (c .before .before .before .before .before .before .before .before .before .if1 .left) (c .before .before .before .before .before .before .before .before .before .before .before .t2 .given .1) (c .before .before .before .before .before .before .before .over-pointee .ensures .levels)))
+returns-3 t c = aimed-open _ _ _ _ _ (c .before .before .before .before .before .before .before .before .before .before .before .before .before .before .before .before .before .before .before .before .before .before .before .before .before .before .before .args .modified) _ _ _ (c .before .before .before .before .before .before .before .before .before .before .before .before .before .before .before .before .before .before .before .before .way-to .ensures) (c .before .before .before .before .before .before .before .before .before .before .before .before .before .before .before .before .before .before .open-type .ensures) (c .before .before .before .before .before .before .before .before .before .before .before .before .before .before .before .before .before .before .before .before .before .before .before .before .before .before .before .pre .1 .0) (omega (arith, c .before .before .before .before .before .before .before .before .before .before .before .before .before .before .before .before .before .before .before .before .before .before .before .before .before .before .before .pre)) (c .before .before .before .before .before .before .before .before .before .before .before .before .before .before .q .given .1) (writes-by (c .before .before .before .before .emit-ptr2 .ensures) (aimed-modifier _ _ _ _ _ _ _ _ _ (c .before .before .before .before .before .before .before .before .before .if1 .left) (c .before .before .before .before .before .before .before .before .before .before .before .t2 .given .1) (c .before .before .before .before .before .before .before .over-pointee .ensures .levels)))
 
 returns-4 : (t : ℕ) → lts.Need-returns-4 (claims t) (emit-ptr-at t) emit-ptr.Post
-returns-4 t c = aimed-open _ _ _ _ _ (c .before .before .before .before .before .before .before .before .before .before .before .before .before .before .before .before .before .before .before .before .before .args .modified) _ _ _ (c .before .before .before .before .before .before .before .before .before .before .before .before .before .before .before .way-to .ensures) (c .before .before .before .before .before .before .before .before .before .before .before .before .before .open-type .ensures) (c .before .before .before .before .before .before .before .before .before .before .before .before .before .before .before .before .before .before .before .before .before .pre .1 .0) (omega (arith, c .before .before .before .before .before .before .before .before .before .before .before .before .before .before .before .before .before .before .before .before .before .pre)) (c .before .before .before .before .before .before .before .before .before .q .given .1) (writes-by (c .before .before .before .before .emit-ptr-helper2 .ensures) (aimed-plain _ _ _ _ _ _ (c .before .before .before .before .before .before .before .before .before .before .before .before .before .before .before .before .before .before .before .before .before .args .modified) (c .before .before .before .before .before .before .before .match2 .keys3)))
+returns-4 t c = aimed-open _ _ _ _ _ (c .before .before .before .before .before .before .before .before .before .before .before .before .before .before .before .before .before .before .before .before .before .before .args .modified) _ _ _ (c .before .before .before .before .before .before .before .before .before .before .before .before .before .before .before .way-to .ensures) (c .before .before .before .before .before .before .before .before .before .before .before .before .before .open-type .ensures) (c .before .before .before .before .before .before .before .before .before .before .before .before .before .before .before .before .before .before .before .before .before .before .pre .1 .0) (omega (arith, c .before .before .before .before .before .before .before .before .before .before .before .before .before .before .before .before .before .before .before .before .before .before .pre)) (c .before .before .before .before .before .before .before .before .before .q .given .1) (writes-by (c .before .before .before .before .emit-ptr-helper2 .ensures) (aimed-plain _ _ _ _ _ _ (c .before .before .before .before .before .before .before .before .before .before .before .before .before .before .before .before .before .before .before .before .before .before .args .modified) (c .before .before .before .before .before .before .before .match2 .keys3)))
 
 returns-5 : (t : ℕ) → lts.Need-returns-5 (claims t) (emit-ptr-at t) emit-ptr.Post
-returns-5 t c = aimed-stopped _ _ _ _ _ (c .before .before .before .before .before .before .before .before .before .before .before .before .before .args .modified) _ _ _ (c .before .before .before .before .before .before .before .way-to .ensures) (c .before .before .before .before .before .open-type .ensures) (c .before .before .before .before .before .before .before .before .before .before .before .before .before .pre .1 .0) (omega (arith, c .before .before .before .before .before .before .before .before .before .before .before .before .before .pre)) (c .before .q2 .given .1)
+returns-5 t c = aimed-stopped _ _ _ _ _ (c .before .before .before .before .before .before .before .before .before .before .before .before .before .before .args .modified) _ _ _ (c .before .before .before .before .before .before .before .way-to .ensures) (c .before .before .before .before .before .open-type .ensures) (c .before .before .before .before .before .before .before .before .before .before .before .before .before .before .pre .1 .0) (omega (arith, c .before .before .before .before .before .before .before .before .before .before .before .before .before .before .pre)) (c .before .q2 .given .1)
 
 same-length : (t : ℕ) → lts.Need-same-length (claims t) (emit-ptr-at t) emit-ptr.Post
 same-length t c = writes-length (returns t c)

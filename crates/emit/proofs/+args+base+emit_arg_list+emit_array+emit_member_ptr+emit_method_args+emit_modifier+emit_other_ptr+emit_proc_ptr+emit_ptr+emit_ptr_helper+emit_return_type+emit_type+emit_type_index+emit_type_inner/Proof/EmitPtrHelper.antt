@@ -17,25 +17,25 @@ enum-known-t : (t : ℕ) → lts.Need-enum-known-t (claims t) (emit-ptr-helper-a
 enum-known-t t c = search needs
 
 emit-member-ptr-requires : (t : ℕ) → lts.Need-emit-member-ptr-requires (claims t) (emit-ptr-helper-at t) emit-ptr-helper.Post
-emit-member-ptr-requires t c κs = search (c .before .before .before .before .match, c .before .before .before .before .before .before .before .before .before .fits, c .before .before .before .before .before .before .before .before .before .pre, needs)
+emit-member-ptr-requires t c κs = search (c .before .before .before .before .match, c .before .before .before .before .before .before .before .before .before .before .before .fits, c .before .before .before .before .before .before .before .before .before .before .before .pre, needs)
 
 enum-known-t-2 : (t : ℕ) → lts.Need-enum-known-t-2 (claims t) (emit-ptr-helper-at t) emit-ptr-helper.Post
 enum-known-t-2 t c = search needs
 
 emit-proc-ptr-requires : (t : ℕ) → lts.Need-emit-proc-ptr-requires (claims t) (emit-ptr-helper-at t) emit-ptr-helper.Post
-emit-proc-ptr-requires t c κs = search (c .before .before .before .before .match, c .before .before .before .before .before .before .before .before .before .fits, c .before .before .before .before .before .before .before .before .before .pre, needs)
+emit-proc-ptr-requires t c κs = search (c .before .before .before .before .match, c .before .before .before .before .before .before .before .before .before .before .before .fits, c .before .before .before .before .before .before .before .before .before .before .before .pre, needs)
 
 emit-other-ptr-requires : (t : ℕ) → lts.Need-emit-other-ptr-requires (claims t) (emit-ptr-helper-at t) emit-ptr-helper.Post
-emit-other-ptr-requires t c κs = search (c .before .before .match, c .before .before .before .before .before .before .before .fits, c .before .before .before .before .before .before .before .pre, needs)
+emit-other-ptr-requires t c κs = search (c .before .before .match, c .before .before .before .before .before .before .before .before .before .fits, c .before .before .before .before .before .before .before .before .before .pre, needs)
 
 returns : (t : ℕ) → lts.Need-returns (claims t) (emit-ptr-helper-at t) emit-ptr-helper.Post
-returns t c = writes-by (c .before .before .before .before .emit-member-ptr .ensures) (search (walks, c .before .before .before .before .before .before .before .before .before .match, c .before .before .before .before .before .before .before .before .before .before .before .before .before .before .fits, c .before .before .before .before .before .before .before .before .before .before .before .before .before .before .pre, needs))
+returns t c = writes-by (c .before .before .before .before .emit-member-ptr .ensures) (search (walks, c .before .before .before .before .before .before .before .before .before .match, c .before .before .before .before .before .before .before .before .before .before .before .before .before .before .before .before .fits, c .before .before .before .before .before .before .before .before .before .before .before .before .before .before .before .before .pre, needs))
 
 returns-2 : (t : ℕ) → lts.Need-returns-2 (claims t) (emit-ptr-helper-at t) emit-ptr-helper.Post
-returns-2 t c = writes-by (c .before .before .before .before .emit-proc-ptr .ensures) (search (walks, c .before .before .before .before .before .before .before .before .before .match, c .before .before .before .before .before .before .before .before .before .before .before .before .before .before .fits, c .before .before .before .before .before .before .before .before .before .before .before .before .before .before .pre, needs))
+returns-2 t c = writes-by (c .before .before .before .before .emit-proc-ptr .ensures) (search (walks, c .before .before .before .before .before .before .before .before .before .match, c .before .before .before .before .before .before .before .before .before .before .before .before .before .before .before .before .fits, c .before .before .before .before .before .before .before .before .before .before .before .before .before .before .before .before .pre, needs))
 
 returns-3 : (t : ℕ) → lts.Need-returns-3 (claims t) (emit-ptr-helper-at t) emit-ptr-helper.Post
-returns-3 t c = writes-by (c .before .before .before .before .emit-other-ptr .ensures) (search (walks, c .before .before .before .before .before .before .before .match, c .before .before .before .before .before .before .before .before .before .before .before .before .fits, c .before .before .before .before .before .before .before .before .before .before .before .before .pre, needs))
+returns-3 t c = writes-by (c .before .before .before .before .emit-other-ptr .ensures) (search (walks, c .before .before .before .before .before .before .before .match, c .before .before .before .before .before .before .before .before .before .before .before .before .before .before .fits, c .before .before .before .before .before .before .before .before .before .before .before .before .before .before .pre, needs))
 
 same-length : (t : ℕ) → lts.Need-same-length (claims t) (emit-ptr-helper-at t) emit-ptr-helper.Post
 same-length t c = writes-length (returns t c)

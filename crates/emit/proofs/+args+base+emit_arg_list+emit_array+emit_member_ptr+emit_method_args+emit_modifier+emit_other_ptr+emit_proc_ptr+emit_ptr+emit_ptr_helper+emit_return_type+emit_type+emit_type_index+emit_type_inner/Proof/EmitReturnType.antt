@@ -16,16 +16,16 @@ returns : (t : ℕ) → lts.Need-returns (claims t) (emit-return-type-at t) emit
 returns t c = unlent (search (walks, needs))
 
 emit-type-index-requires : (t : ℕ) → lts.Need-emit-type-index-requires (claims t) (emit-return-type-at t) emit-return-type.Post
-emit-type-index-requires t c κs = search (c .before .before .if1, c .before .before .before .before .before .before .before .fits, c .before .before .before .before .before .before .before .pre, needs)
+emit-type-index-requires t c κs = search (c .before .before .if1, c .before .before .before .before .before .before .before .before .before .fits, c .before .before .before .before .before .before .before .before .before .pre, needs)
 
 slice-aggregate-text : (t : ℕ) → lts.Need-slice-aggregate-text (claims t) (emit-return-type-at t) emit-return-type.Post
 slice-aggregate-text t c = search needs
 
 text-requires : (t : ℕ) → lts.Need-text-requires (claims t) (emit-return-type-at t) emit-return-type.Post
-text-requires t c κs = search (c .before .before .before .before .before .before .before .before .before .if1, c .before .before .before .before .before .before .before .before .before .before .before .before .before .before .fits, c .before .before .before .before .before .before .before .before .before .before .before .before .before .before .pre, needs)
+text-requires t c κs = search (c .before .before .before .before .before .before .before .before .before .if1, c .before .before .before .before .before .before .before .before .before .before .before .before .before .before .before .before .fits, c .before .before .before .before .before .before .before .before .before .before .before .before .before .before .before .before .pre, needs)
 
 returns-2 : (t : ℕ) → lts.Need-returns-2 (claims t) (emit-return-type-at t) emit-return-type.Post
-returns-2 t c = writes-by (c .before .before .before .before .before .before .before .before .before .emit-type-index .ensures ▸▸ plain (c .before .before .text .ensures)) (search (walks, c .before .before .before .before .before .before .before .before .before .before .before .before .if1, c .before .before .before .before .before .before .before .before .before .before .before .before .before .before .before .before .before .fits, c .before .before .before .before .before .before .before .before .before .before .before .before .before .before .before .before .before .pre, needs))
+returns-2 t c = writes-by (c .before .before .before .before .before .before .before .before .before .emit-type-index .ensures ▸▸ plain (c .before .before .text .ensures)) (search (walks, c .before .before .before .before .before .before .before .before .before .before .before .before .if1, c .before .before .before .before .before .before .before .before .before .before .before .before .before .before .before .before .before .before .before .fits, c .before .before .before .before .before .before .before .before .before .before .before .before .before .before .before .before .before .before .before .pre, needs))
 
 same-length : (t : ℕ) → lts.Need-same-length (claims t) (emit-return-type-at t) emit-return-type.Post
 same-length t c = writes-length (returns-2 t c)

@@ -15,16 +15,16 @@ abbrev claims : ℕ → lts.Claims
 claims t = (is-idle-reads.Asked, is-idle-reads.Learnt, emit-type-inner-below t, emit-type-inner.Post, mark-missing-reads.Asked, mark-missing-reads.Learnt)
 
 is-idle-requires : (t : ℕ) → lts.Need-is-idle-requires (claims t) (emit-type-at t) emit-type.Post
-is-idle-requires t c κs = search (c .before .before .before .before .fits, c .before .before .before .before .pre, needs)
+is-idle-requires t c κs = search (c .before .before .before .before .before .before .fits, c .before .before .before .before .before .before .pre, needs)
 
 returns : (t : ℕ) → lts.Need-returns (claims t) (emit-type-at t) emit-type.Post
 returns t c = unlent (wrote-idle (cc))
 
 emit-type-inner-requires : (t : ℕ) → lts.Need-emit-type-inner-requires (claims t) (emit-type-at t) emit-type.Post
-emit-type-inner-requires t c κs = search (c .before .before .if1, c .before .before .before .before .before .before .before .before .fits, c .before .before .before .before .before .before .before .before .pre, c .before .before .before .is-idle .ensures, needs)
+emit-type-inner-requires t c κs = search (c .before .before .if1, c .before .before .before .before .before .before .before .before .before .before .fits, c .before .before .before .before .before .before .before .before .before .before .pre, c .before .before .before .is-idle .ensures, needs)
 
 mark-missing-requires : (t : ℕ) → lts.Need-mark-missing-requires (claims t) (emit-type-at t) emit-type.Post
-mark-missing-requires t c κs = search (c .before .before .before .before .before .before .before .before .if1, c .before .before .before .before .before .before .before .before .before .before .before .before .before .before .fits, c .before .before .before .before .before .before .before .before .before .before .before .before .before .before .pre, c .before .before .before .before .before .before .before .before .before .is-idle .ensures, needs)
+mark-missing-requires t c κs = search (c .before .before .before .before .before .before .before .before .if1, c .before .before .before .before .before .before .before .before .before .before .before .before .before .before .before .before .fits, c .before .before .before .before .before .before .before .before .before .before .before .before .before .before .before .before .pre, c .before .before .before .before .before .before .before .before .before .is-idle .ensures, needs)
 
 returns-2 : (t : ℕ) → lts.Need-returns-2 (claims t) (emit-type-at t) emit-type.Post
 returns-2 t c = writes-by (writes-marking (cc) (c .before .before .before .before .before .before .before .before .emit-type-inner .ensures) (c .before .before .mark-missing .ensures)) (text-is _ _ _ _)

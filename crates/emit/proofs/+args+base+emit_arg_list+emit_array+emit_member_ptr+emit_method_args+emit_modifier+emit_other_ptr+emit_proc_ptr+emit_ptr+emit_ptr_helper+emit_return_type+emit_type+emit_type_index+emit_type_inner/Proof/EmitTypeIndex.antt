@@ -20,25 +20,25 @@ abbrev claims : ℕ → lts.Claims
 claims t = (is-idle-reads.Asked, is-idle-reads.Learnt, type-at-reads.Asked, type-at-reads.Learnt, open-index-reads.Asked, open-index-reads.Learnt, emit-type-below t, emit-type.Post, emit-mark-reads.Asked, emit-mark-reads.Learnt)
 
 is-idle-requires : (t : ℕ) → lts.Need-is-idle-requires (claims t) (emit-type-index-at t) emit-type-index.Post
-is-idle-requires t c κs = search (c .before .before .before .before .fits, c .before .before .before .before .pre, needs)
+is-idle-requires t c κs = search (c .before .before .before .before .before .before .fits, c .before .before .before .before .before .before .pre, needs)
 
 returns : (t : ℕ) → lts.Need-returns (claims t) (emit-type-index-at t) emit-type-index.Post
 returns t c = unlent (wrote-idle (cc))
 
 type-at-requires : (t : ℕ) → lts.Need-type-at-requires (claims t) (emit-type-index-at t) emit-type-index.Post
-type-at-requires t c κs = search (c .before .if1, c .before .before .before .before .before .before .before .fits, c .before .before .before .before .before .before .before .pre, c .before .before .is-idle .ensures, needs)
+type-at-requires t c κs = search (c .if1, c .before .before .before .before .before .before .before .before .fits, c .before .before .before .before .before .before .before .before .pre, c .before .is-idle .ensures, needs)
 
 enum-known-t : (t : ℕ) → lts.Need-enum-known-t (claims t) (emit-type-index-at t) emit-type-index.Post
 enum-known-t t c = search needs
 
 open-index-requires : (t : ℕ) → lts.Need-open-index-requires (claims t) (emit-type-index-at t) emit-type-index.Post
-open-index-requires t c κs = search (c .before .before .before .match, c .before .before .before .before .before .before .if1, c .before .before .before .before .before .before .before .before .before .before .before .before .fits, c .before .before .before .before .before .before .before .before .before .before .before .before .pre, c .before .before .before .before .type-at .ensures, c .before .before .before .before .before .before .before .is-idle .ensures, needs)
+open-index-requires t c κs = search (c .before .before .before .match, c .before .before .before .before .before .if1, c .before .before .before .before .before .before .before .before .before .before .before .before .before .fits, c .before .before .before .before .before .before .before .before .before .before .before .before .before .pre, c .before .before .before .before .type-at .ensures, c .before .before .before .before .before .before .is-idle .ensures, needs)
 
 enum-known-q : (t : ℕ) → lts.Need-enum-known-q (claims t) (emit-type-index-at t) emit-type-index.Post
 enum-known-q t c = search needs
 
 emit-type-requires : (t : ℕ) → lts.Need-emit-type-requires (claims t) (emit-type-index-at t) emit-type-index.Post
-emit-type-requires t c κs = (omega (arith, open-in (c .before .before .before .before .before .before .before .open-index .ensures) (c .before .before .before .before .before .before .before .before .before .before .before .before .before .before .before .before .before .before .before .before .pre .1 .0) (omega (arith, c .before .before .before .before .before .before .before .before .before .before .before .before .before .before .before .before .before .before .before .before .pre)) (c .before .before .before .q .given .1) .next, arrayed-low (c .before .before .before .before .before .before .before .before .before .before .t .given .0 .0), c .before .before .before .before .before .before .before .before .before .before .before .before .before .before .before .before .before .before .before .before .pre), (open-in (c .before .before .before .before .before .before .before .open-index .ensures) (c .before .before .before .before .before .before .before .before .before .before .before .before .before .before .before .before .before .before .before .before .pre .1 .0) (omega (arith, c .before .before .before .before .before .before .before .before .before .before .before .before .before .before .before .before .before .before .before .before .pre)) (c .before .before .before .q .given .1) .all, omega (arith, open-in (c .before .before .before .before .before .before .before .open-index .ensures) (c .before .before .before .before .before .before .before .before .before .before .before .before .before .before .before .before .before .before .before .before .pre .1 .0) (omega (arith, c .before .before .before .before .before .before .before .before .before .before .before .before .before .before .before .before .before .before .before .before .pre)) (c .before .before .before .q .given .1) .next, c .before .before .before .before .before .before .before .before .before .before .before .before .before .before .before .before .before .before .before .before .pre)))
+emit-type-requires t c κs = (omega (arith, open-in (c .before .before .before .before .before .before .before .open-index .ensures) (c .before .before .before .before .before .before .before .before .before .before .before .before .before .before .before .before .before .before .before .before .before .pre .1 .0) (omega (arith, c .before .before .before .before .before .before .before .before .before .before .before .before .before .before .before .before .before .before .before .before .before .pre)) (c .before .before .before .q .given .1) .next, arrayed-low (c .before .before .before .before .before .before .before .before .before .before .t .given .0 .0), c .before .before .before .before .before .before .before .before .before .before .before .before .before .before .before .before .before .before .before .before .before .pre), (open-in (c .before .before .before .before .before .before .before .open-index .ensures) (c .before .before .before .before .before .before .before .before .before .before .before .before .before .before .before .before .before .before .before .before .before .pre .1 .0) (omega (arith, c .before .before .before .before .before .before .before .before .before .before .before .before .before .before .before .before .before .before .before .before .before .pre)) (c .before .before .before .q .given .1) .all, omega (arith, open-in (c .before .before .before .before .before .before .before .open-index .ensures) (c .before .before .before .before .before .before .before .before .before .before .before .before .before .before .before .before .before .before .before .before .before .pre .1 .0) (omega (arith, c .before .before .before .before .before .before .before .before .before .before .before .before .before .before .before .before .before .before .before .before .before .pre)) (c .before .before .before .q .given .1) .next, c .before .before .before .before .before .before .before .before .before .before .before .before .before .before .before .before .before .before .before .before .before .pre)))
 
 enum-known-q-2 : (t : ℕ) → lts.Need-enum-known-q-2 (claims t) (emit-type-index-at t) emit-type-index.Post
 enum-known-q-2 t c = search needs
@@ -47,13 +47,13 @@ enum-known-f : (t : ℕ) → lts.Need-enum-known-f (claims t) (emit-type-index-a
 enum-known-f t c = search needs
 
 emit-mark-requires : (t : ℕ) → lts.Need-emit-mark-requires (claims t) (emit-type-index-at t) emit-type-index.Post
-emit-mark-requires t c κs = search (c .before .before .before .match, c .before .before .before .before .before .before .if1, c .before .before .before .before .before .before .before .before .before .before .before .before .fits, c .before .before .before .before .before .before .before .before .before .before .before .before .pre, c .before .before .before .before .type-at .ensures, c .before .before .before .before .before .before .before .is-idle .ensures, needs)
+emit-mark-requires t c κs = search (c .before .before .before .match, c .before .before .before .before .before .if1, c .before .before .before .before .before .before .before .before .before .before .before .before .before .fits, c .before .before .before .before .before .before .before .before .before .before .before .before .before .pre, c .before .before .before .before .type-at .ensures, c .before .before .before .before .before .before .is-idle .ensures, needs)
 
 returns-2 : (t : ℕ) → lts.Need-returns-2 (claims t) (emit-type-index-at t) emit-type-index.Post
-returns-2 t c = self-open _ _ _ _ _ _ (c .before .before .before .before .before .before .before .before .before .before .before .before .before .before .before .before .before .type-at .ensures) (c .before .before .before .before .before .before .before .before .before .before .before .before .before .before .before .t .given .1) (c .before .before .before .before .before .before .before .before .before .before .before .before .open-index .ensures) (c .before .before .before .before .before .before .before .before .before .before .before .before .before .before .before .before .before .before .before .before .before .before .before .before .before .pre .1 .0) (omega (arith, c .before .before .before .before .before .before .before .before .before .before .before .before .before .before .before .before .before .before .before .before .before .before .before .before .before .pre)) (c .before .before .before .before .before .before .before .before .q .given .1) (c .before .before .before .before .emit-type .ensures)
+returns-2 t c = self-open _ _ _ _ _ _ (c .before .before .before .before .before .before .before .before .before .before .before .before .before .before .before .before .before .type-at .ensures) (c .before .before .before .before .before .before .before .before .before .before .before .before .before .before .before .t .given .1) (c .before .before .before .before .before .before .before .before .before .before .before .before .open-index .ensures) (c .before .before .before .before .before .before .before .before .before .before .before .before .before .before .before .before .before .before .before .before .before .before .before .before .before .before .pre .1 .0) (omega (arith, c .before .before .before .before .before .before .before .before .before .before .before .before .before .before .before .before .before .before .before .before .before .before .before .before .before .before .pre)) (c .before .before .before .before .before .before .before .before .q .given .1) (c .before .before .before .before .emit-type .ensures)
 
 returns-3 : (t : ℕ) → lts.Need-returns-3 (claims t) (emit-type-index-at t) emit-type-index.Post
-returns-3 t c = self-stopped _ _ _ _ _ _ (c .before .before .before .before .before .before .before .before .before .before .type-at .ensures) (c .before .before .before .before .before .before .before .before .t .given .1) (c .before .before .before .before .before .open-index .ensures) (c .before .before .before .before .before .before .before .before .before .before .before .before .before .before .before .before .before .before .pre .1 .0) (omega (arith, c .before .before .before .before .before .before .before .before .before .before .before .before .before .before .before .before .before .before .pre)) (c .before .q2 .given .1)
+returns-3 t c = self-stopped _ _ _ _ _ _ (c .before .before .before .before .before .before .before .before .before .before .type-at .ensures) (c .before .before .before .before .before .before .before .before .t .given .1) (c .before .before .before .before .before .open-index .ensures) (c .before .before .before .before .before .before .before .before .before .before .before .before .before .before .before .before .before .before .before .pre .1 .0) (omega (arith, c .before .before .before .before .before .before .before .before .before .before .before .before .before .before .before .before .before .before .before .pre)) (c .before .q2 .given .1)
 
 returns-4 : (t : ℕ) → lts.Need-returns-4 (claims t) (emit-type-index-at t) emit-type-index.Post
 returns-4 t c = writes-by (plain wrote-step ▸▸ (plain (c .before .before .emit-mark .ensures))) (self-bad _ _ _ _ _ _ _ (c .before .before .before .before .before .before .before .type-at .ensures) (c .before .before .before .before .before .f .given .1))

@@ -30,85 +30,85 @@ enum-known-t : (t : ℕ) → lts.Need-enum-known-t (claims t) (emit-type-inner-a
 enum-known-t t c = search needs
 
 emit-primitive-requires : (t : ℕ) → lts.Need-emit-primitive-requires (claims t) (emit-type-inner-at t) emit-type-inner.Post
-emit-primitive-requires t c κs = search (c .before .before .before .match, c .before .before .before .before .before .before .before .before .fits, c .before .before .before .before .before .before .before .before .pre, needs)
+emit-primitive-requires t c κs = search (c .before .before .before .match, c .before .before .before .before .before .before .before .before .before .before .fits, c .before .before .before .before .before .before .before .before .before .before .pre, needs)
 
 enum-known-t-2 : (t : ℕ) → lts.Need-enum-known-t-2 (claims t) (emit-type-inner-at t) emit-type-inner.Post
 enum-known-t-2 t c = search needs
 
 emit-modifier-requires : (t : ℕ) → lts.Need-emit-modifier-requires (claims t) (emit-type-inner-at t) emit-type-inner.Post
-emit-modifier-requires t c κs = search (c .before .before .before .before .before .match, c .before .before .before .before .before .before .before .before .before .before .fits, c .before .before .before .before .before .before .before .before .before .before .pre, needs)
+emit-modifier-requires t c κs = search (c .before .before .before .before .before .match, c .before .before .before .before .before .before .before .before .before .before .before .before .fits, c .before .before .before .before .before .before .before .before .before .before .before .before .pre, needs)
 
 enum-known-t-3 : (t : ℕ) → lts.Need-enum-known-t-3 (claims t) (emit-type-inner-at t) emit-type-inner.Post
 enum-known-t-3 t c = search needs
 
 no-levels-requires : (t : ℕ) → lts.Need-no-levels-requires (claims t) (emit-type-inner-at t) emit-type-inner.Post
-no-levels-requires t c κs = search (c .before .before .before .match, c .before .before .before .before .before .before .before .before .fits, c .before .before .before .before .before .before .before .before .pre, needs)
+no-levels-requires t c κs = search (c .before .before .before .match, c .before .before .before .before .before .before .before .before .before .before .fits, c .before .before .before .before .before .before .before .before .before .before .pre, needs)
 
 aim-requires : (t : ℕ) → lts.Need-aim-requires (claims t) (emit-type-inner-at t) emit-type-inner.Post
-aim-requires t c κs = search (c .before .before .before .before .match, c .before .before .before .before .before .before .before .before .before .fits, c .before .before .before .before .before .before .before .before .before .pre, c .no-levels .ensures, needs)
+aim-requires t c κs = search (c .before .before .before .before .match, c .before .before .before .before .before .before .before .before .before .before .before .fits, c .before .before .before .before .before .before .before .before .before .before .before .pre, c .no-levels .ensures, needs)
 
 emit-ptr-requires : (t : ℕ) → lts.Need-emit-ptr-requires (claims t) (emit-type-inner-at t) emit-type-inner.Post
-emit-ptr-requires t c κs = search (c .before .before .before .before .before .before .before .match, c .before .before .before .before .before .before .before .before .before .before .before .before .fits, c .before .before .before .before .before .before .before .before .before .before .before .before .pre, c .before .before .aim .ensures, c .before .before .before .no-levels .ensures, needs)
+emit-ptr-requires t c κs = search (c .before .before .before .before .before .before .before .match, c .before .before .before .before .before .before .before .before .before .before .before .before .before .before .fits, c .before .before .before .before .before .before .before .before .before .before .before .before .before .before .pre, c .before .before .aim .ensures, c .before .before .before .no-levels .ensures, needs)
 
 enum-known-t-4 : (t : ℕ) → lts.Need-enum-known-t-4 (claims t) (emit-type-inner-at t) emit-type-inner.Post
 enum-known-t-4 t c = search needs
 
 is-void-requires : (t : ℕ) → lts.Need-is-void-requires (claims t) (emit-type-inner-at t) emit-type-inner.Post
-is-void-requires t c κs = search (c .before .before .before .match, c .before .before .before .before .before .before .before .before .fits, c .before .before .before .before .before .before .before .before .pre, needs)
+is-void-requires t c κs = search (c .before .before .before .match, c .before .before .before .before .before .before .before .before .before .before .fits, c .before .before .before .before .before .before .before .before .before .before .pre, needs)
 
 hides-return-requires : (t : ℕ) → lts.Need-hides-return-requires (claims t) (emit-type-inner-at t) emit-type-inner.Post
-hides-return-requires t c κs = search (c .before .before .before .before .match, c .before .before .before .before .before .before .before .before .before .fits, c .before .before .before .before .before .before .before .before .before .pre, c .is-void .ensures, needs)
+hides-return-requires t c κs = search (c .before .before .before .before .match, c .before .before .before .before .before .before .before .before .before .before .before .fits, c .before .before .before .before .before .before .before .before .before .before .before .pre, c .is-void .ensures, needs)
 
 emit-return-type-requires : (t : ℕ) → lts.Need-emit-return-type-requires (claims t) (emit-type-inner-at t) emit-type-inner.Post
-emit-return-type-requires t c κs = search (c .before .before .before .before .before .before .before .match, c .before .before .before .before .before .before .before .before .before .before .before .before .fits, c .before .before .before .before .before .before .before .before .before .before .before .before .pre, c .before .before .hides-return .ensures, c .before .before .before .is-void .ensures, needs)
+emit-return-type-requires t c κs = search (c .before .before .before .before .before .before .before .match, c .before .before .before .before .before .before .before .before .before .before .before .before .before .before .fits, c .before .before .before .before .before .before .before .before .before .before .before .before .before .before .pre, c .before .before .hides-return .ensures, c .before .before .before .is-void .ensures, needs)
 
 slice-aggregate-text : (t : ℕ) → lts.Need-slice-aggregate-text (claims t) (emit-type-inner-at t) emit-type-inner.Post
 slice-aggregate-text t c = search needs
 
 text-requires : (t : ℕ) → lts.Need-text-requires (claims t) (emit-type-inner-at t) emit-type-inner.Post
-text-requires t c κs = search (c .before .before .before .before .before .before .before .before .before .before .before .before .before .before .match, c .before .before .before .before .before .before .before .before .before .before .before .before .before .before .before .before .before .before .before .fits, c .before .before .before .before .before .before .before .before .before .before .before .before .before .before .before .before .before .before .before .pre, c .before .before .before .before .before .before .before .before .before .hides-return .ensures, c .before .before .before .before .before .before .before .before .before .before .is-void .ensures, needs)
+text-requires t c κs = search (c .before .before .before .before .before .before .before .before .before .before .before .before .before .before .match, c .before .before .before .before .before .before .before .before .before .before .before .before .before .before .before .before .before .before .before .before .before .fits, c .before .before .before .before .before .before .before .before .before .before .before .before .before .before .before .before .before .before .before .before .before .pre, c .before .before .before .before .before .before .before .before .before .hides-return .ensures, c .before .before .before .before .before .before .before .before .before .before .is-void .ensures, needs)
 
 emit-type-index-requires : (t : ℕ) → lts.Need-emit-type-index-requires (claims t) (emit-type-inner-at t) emit-type-inner.Post
-emit-type-index-requires t c κs = search (c .before .before .before .before .before .before .before .before .before .before .before .before .before .before .before .before .before .before .before .match, c .before .before .before .before .before .before .before .before .before .before .before .before .before .before .before .before .before .before .before .before .before .before .before .before .fits, c .before .before .before .before .before .before .before .before .before .before .before .before .before .before .before .before .before .before .before .before .before .before .before .before .pre, c .before .before .before .before .before .before .before .before .before .before .before .before .before .before .hides-return .ensures, c .before .before .before .before .before .before .before .before .before .before .before .before .before .before .before .is-void .ensures, needs)
+emit-type-index-requires t c κs = search (c .before .before .before .before .before .before .before .before .before .before .before .before .before .before .before .before .before .before .before .match, c .before .before .before .before .before .before .before .before .before .before .before .before .before .before .before .before .before .before .before .before .before .before .before .before .before .before .fits, c .before .before .before .before .before .before .before .before .before .before .before .before .before .before .before .before .before .before .before .before .before .before .before .before .before .before .pre, c .before .before .before .before .before .before .before .before .before .before .before .before .before .before .hides-return .ensures, c .before .before .before .before .before .before .before .before .before .before .before .before .before .before .before .is-void .ensures, needs)
 
 enum-known-t-5 : (t : ℕ) → lts.Need-enum-known-t-5 (claims t) (emit-type-inner-at t) emit-type-inner.Post
 enum-known-t-5 t c = search needs
 
 hides-return-requires-2 : (t : ℕ) → lts.Need-hides-return-requires-2 (claims t) (emit-type-inner-at t) emit-type-inner.Post
-hides-return-requires-2 t c κs = search (c .before .before .match, c .before .before .before .before .before .before .before .fits, c .before .before .before .before .before .before .before .pre, needs)
+hides-return-requires-2 t c κs = search (c .before .before .match, c .before .before .before .before .before .before .before .before .before .fits, c .before .before .before .before .before .before .before .before .before .pre, needs)
 
 emit-return-type-requires-2 : (t : ℕ) → lts.Need-emit-return-type-requires-2 (claims t) (emit-type-inner-at t) emit-type-inner.Post
-emit-return-type-requires-2 t c κs = search (c .before .before .before .before .before .match, c .before .before .before .before .before .before .before .before .before .before .fits, c .before .before .before .before .before .before .before .before .before .before .pre, c .before .before .hides-return2 .ensures, needs)
+emit-return-type-requires-2 t c κs = search (c .before .before .before .before .before .match, c .before .before .before .before .before .before .before .before .before .before .before .before .fits, c .before .before .before .before .before .before .before .before .before .before .before .before .pre, c .before .before .hides-return2 .ensures, needs)
 
 slice-aggregate-text-2 : (t : ℕ) → lts.Need-slice-aggregate-text-2 (claims t) (emit-type-inner-at t) emit-type-inner.Post
 slice-aggregate-text-2 t c = search needs
 
 text-requires-2 : (t : ℕ) → lts.Need-text-requires-2 (claims t) (emit-type-inner-at t) emit-type-inner.Post
-text-requires-2 t c κs = search (c .before .before .before .before .before .before .before .before .before .before .before .before .match, c .before .before .before .before .before .before .before .before .before .before .before .before .before .before .before .before .before .fits, c .before .before .before .before .before .before .before .before .before .before .before .before .before .before .before .before .before .pre, c .before .before .before .before .before .before .before .before .before .hides-return2 .ensures, needs)
+text-requires-2 t c κs = search (c .before .before .before .before .before .before .before .before .before .before .before .before .match, c .before .before .before .before .before .before .before .before .before .before .before .before .before .before .before .before .before .before .before .fits, c .before .before .before .before .before .before .before .before .before .before .before .before .before .before .before .before .before .before .before .pre, c .before .before .before .before .before .before .before .before .before .hides-return2 .ensures, needs)
 
 emit-method-args-requires : (t : ℕ) → lts.Need-emit-method-args-requires (claims t) (emit-type-inner-at t) emit-type-inner.Post
-emit-method-args-requires t c κs = search (c .before .before .before .before .before .before .before .before .before .before .before .before .before .before .before .before .before .match, c .before .before .before .before .before .before .before .before .before .before .before .before .before .before .before .before .before .before .before .before .before .before .fits, c .before .before .before .before .before .before .before .before .before .before .before .before .before .before .before .before .before .before .before .before .before .before .pre, c .before .before .before .before .before .before .before .before .before .before .before .before .before .before .hides-return2 .ensures, needs)
+emit-method-args-requires t c κs = search (c .before .before .before .before .before .before .before .before .before .before .before .before .before .before .before .before .before .match, c .before .before .before .before .before .before .before .before .before .before .before .before .before .before .before .before .before .before .before .before .before .before .before .before .fits, c .before .before .before .before .before .before .before .before .before .before .before .before .before .before .before .before .before .before .before .before .before .before .before .before .pre, c .before .before .before .before .before .before .before .before .before .before .before .before .before .before .hides-return2 .ensures, needs)
 
 enum-known-t-6 : (t : ℕ) → lts.Need-enum-known-t-6 (claims t) (emit-type-inner-at t) emit-type-inner.Post
 enum-known-t-6 t c = search needs
 
 emit-arg-list-requires : (t : ℕ) → lts.Need-emit-arg-list-requires (claims t) (emit-type-inner-at t) emit-type-inner.Post
-emit-arg-list-requires t c κs = search (c .before .before .before .before .match, c .before .before .before .before .before .before .before .before .before .fits, c .before .before .before .before .before .before .before .before .before .pre, needs)
+emit-arg-list-requires t c κs = search (c .before .before .before .before .match, c .before .before .before .before .before .before .before .before .before .before .before .fits, c .before .before .before .before .before .before .before .before .before .before .before .pre, needs)
 
 enum-known-t-7 : (t : ℕ) → lts.Need-enum-known-t-7 (claims t) (emit-type-inner-at t) emit-type-inner.Post
 enum-known-t-7 t c = search needs
 
 emit-array-requires : (t : ℕ) → lts.Need-emit-array-requires (claims t) (emit-type-inner-at t) emit-type-inner.Post
-emit-array-requires t c κs = (omega (arith, arrayed-is _ _ (c .before .before .before .t7 .given .1), c .before .before .before .before .before .before .before .before .before .pre), c .before .before .before .before .before .before .before .before .before .pre .1)
+emit-array-requires t c κs = (omega (arith, arrayed-is _ _ (c .before .before .before .t7 .given .1), c .before .before .before .before .before .before .before .before .before .before .before .pre), c .before .before .before .before .before .before .before .before .before .before .before .pre .1)
 
 emit-record-requires : (t : ℕ) → lts.Need-emit-record-requires (claims t) (emit-type-inner-at t) emit-type-inner.Post
-emit-record-requires t c κs = search (c .before .match, c .before .before .before .before .before .before .fits, c .before .before .before .before .before .before .pre, needs)
+emit-record-requires t c κs = search (c .before .match, c .before .before .before .before .before .before .before .before .fits, c .before .before .before .before .before .before .before .before .pre, needs)
 
 returns : (t : ℕ) → lts.Need-returns (claims t) (emit-type-inner-at t) emit-type-inner.Post
-returns t c = writes-by (plain (c .before .before .emit-primitive .ensures)) (search (walks, c .before .before .before .before .before .before .match, c .before .before .before .before .before .before .before .before .before .before .before .fits, c .before .before .before .before .before .before .before .before .before .before .before .pre, needs))
+returns t c = writes-by (plain (c .before .before .emit-primitive .ensures)) (search (walks, c .before .before .before .before .before .before .match, c .before .before .before .before .before .before .before .before .before .before .before .before .before .fits, c .before .before .before .before .before .before .before .before .before .before .before .before .before .pre, needs))
 
 returns-2 : (t : ℕ) → lts.Need-returns-2 (claims t) (emit-type-inner-at t) emit-type-inner.Post
-returns-2 t c = writes-by (c .before .before .before .before .emit-modifier .ensures) (search (walks, c .before .before .before .before .before .before .before .before .before .before .match, c .before .before .before .before .before .before .before .before .before .before .before .before .before .before .before .fits, c .before .before .before .before .before .before .before .before .before .before .before .before .before .before .before .pre, needs))
+returns-2 t c = writes-by (c .before .before .before .before .emit-modifier .ensures) (search (walks, c .before .before .before .before .before .before .before .before .before .before .match, c .before .before .before .before .before .before .before .before .before .before .before .before .before .before .before .before .before .fits, c .before .before .before .before .before .before .before .before .before .before .before .before .before .before .before .before .before .pre, needs))
 
 returns-3 : (t : ℕ) → lts.Need-returns-3 (claims t) (emit-type-inner-at t) emit-type-inner.Post
 returns-3 t c = writes-by (c .before .before .before .before .emit-ptr .ensures) (inner-pointer _ _ _ _ _ _ _ _ (c .before .before .before .before .before .before .before .before .before .before .before .t3 .given .1) (c .before .before .before .before .before .before .before .before .no-levels .ensures .levels) (c .before .before .before .before .before .before .before .aim .ensures .1))
@@ -120,13 +120,13 @@ returns-5 : (t : ℕ) → lts.Need-returns-5 (claims t) (emit-type-inner-at t) e
 returns-5 t c = writes-by (c .before .before .before .before .before .before .before .before .before .before .before .before .before .before .before .before .emit-return-type2 .ensures ▸▸ plain (c .before .before .before .before .before .before .before .before .before .text2 .ensures) ▸▸ c .before .before .before .before .emit-method-args .ensures) (inner-method _ _ _ _ _ _ _ (c .before .before .before .before .before .before .before .before .before .before .before .before .before .before .before .before .before .before .before .before .before .t5 .given .1) (c .before .before .before .before .before .before .before .before .before .before .before .before .before .before .before .before .before .before .before .hides-return2 .ensures))
 
 returns-6 : (t : ℕ) → lts.Need-returns-6 (claims t) (emit-type-inner-at t) emit-type-inner.Post
-returns-6 t c = writes-by (c .before .before .before .before .emit-arg-list .ensures) (search (walks, c .before .before .before .before .before .before .before .before .before .match, c .before .before .before .before .before .before .before .before .before .before .before .before .before .before .fits, c .before .before .before .before .before .before .before .before .before .before .before .before .before .before .pre, needs))
+returns-6 t c = writes-by (c .before .before .before .before .emit-arg-list .ensures) (search (walks, c .before .before .before .before .before .before .before .before .before .match, c .before .before .before .before .before .before .before .before .before .before .before .before .before .before .before .before .fits, c .before .before .before .before .before .before .before .before .before .before .before .before .before .before .before .before .pre, needs))
 
 returns-7 : (t : ℕ) → lts.Need-returns-7 (claims t) (emit-type-inner-at t) emit-type-inner.Post
-returns-7 t c = writes-by (c .before .before .before .before .emit-array .ensures) (search (walks, c .before .before .before .before .before .before .before .before .before .match, c .before .before .before .before .before .before .before .before .before .before .before .before .before .before .fits, c .before .before .before .before .before .before .before .before .before .before .before .before .before .before .pre, needs))
+returns-7 t c = writes-by (c .before .before .before .before .emit-array .ensures) (search (walks, c .before .before .before .before .before .before .before .before .before .match, c .before .before .before .before .before .before .before .before .before .before .before .before .before .before .before .before .fits, c .before .before .before .before .before .before .before .before .before .before .before .before .before .before .before .before .pre, needs))
 
 returns-8 : (t : ℕ) → lts.Need-returns-8 (claims t) (emit-type-inner-at t) emit-type-inner.Post
-returns-8 t c = writes-by (plain (c .before .before .emit-record .ensures)) (search (walks, c .before .before .before .before .match, c .before .before .before .before .before .before .before .before .before .fits, c .before .before .before .before .before .before .before .before .before .pre, needs))
+returns-8 t c = writes-by (plain (c .before .before .emit-record .ensures)) (search (walks, c .before .before .before .before .match, c .before .before .before .before .before .before .before .before .before .before .before .fits, c .before .before .before .before .before .before .before .before .before .before .before .pre, needs))
 
 same-length : (t : ℕ) → lts.Need-same-length (claims t) (emit-type-inner-at t) emit-type-inner.Post
 same-length t c = writes-length (returns t c)
