@@ -18,7 +18,7 @@ use Rattle.streams.specs.declared.refusal.Refusal.the-variants.{
   FunctionIdIsNotProcedureType,
   MemberFunctionIdIsNotMemberFunctionType,
 }
-use Rattle.codeview.specs.Read.{readId}
+use Rattle.codeview.specs.Read.{readIdIn}
 use Rattle.codeview.specs.declared.record.Entries.{Entries}
 use Rattle.codeview.specs.declared.record.ProcedureType.{ProcedureType}
 use Rattle.codeview.specs.declared.record.MemberFunctionType.{MemberFunctionType}
@@ -72,10 +72,10 @@ use Rattle.rules.specs.Record.{
   typeContents,
   idContents,
   idAsRead,
-  tableOf,
   nameAt,
   numbersAt,
 }
+use Rattle.rules.specs.Places.{tableBy, Lent, tableIn}
 use Rattle.rules.specs.Text.{functionName, stringText, unhandledScope}
 use Rattle.rules.specs.Task.{Task, byItself, functionOf, idOf, functionId, memberId, Rule, inside, unread, marked}
 use Rattle.rules.specs.Types.{result, procedureResult, returned, methodArguments, procedureArguments}
@@ -89,7 +89,7 @@ use Rattle.context.specs.declared.flags.Call.{Call}
 use Rattle.context.specs.declared.seen.Way.the-variants as way
 use Rattle.context.specs.declared.seen.TypeOpening.{TypeOpening}
 use Rattle.context.specs.declared.seen.TypeOpening.the-variants as typeOpening
-use Rattle.context.specs.Context.{settingsOf, tableIn, keysOf, holding}
+use Rattle.context.specs.Context.{settingsOf, keysOf, holding}
 use Rattle.context.specs.Opening.{OpensType, Writes}
 use Rattle.context.proofs.Opening.{walk-on, type-stopped, type-open, wrote-first}
 use Rattle.leaf_writers.specs.Marks.{markTrace}
@@ -195,12 +195,12 @@ module _ (c : Settings) (t : Table) (h : Held) where
       (sym (in-turn (walked c t h (idOf scope)) (writing (bytes "::")) (ruled c t h (seq (write (functionName name)) (procedureArguments c list)))))
       ∙ rw (ne-eqb scope 0 g)
 
-module _ (s d : List ℕ) (call : Call) where
+module _ (s : List ℕ) (d : Lent) (call : Call) where
   abbrev c : Settings
   c = settingsOf call
 
   abbrev t : Table
-  t = tableIn s d call
+  t = tableIn s d
 
   abbrev h : Held
   h = holding call []
@@ -221,7 +221,7 @@ module _ (s d : List ℕ) (call : Call) where
   function-body (suc i) name n = refl
 
   module _ (i : ℕ) (name : List ℕ) (n : i ≡ 0 → ⊥) {p : Pen} {list l : List ℕ} {r : TypeOpening} (b : List ℕ)
-      (z : OpensType s (call .types) p list 96 way.Function i l r) (room : length list ≡ 96) where
+      (z : OpensType s (d .near .bounds) (d .near .places) p list 96 way.Function i l r) (room : length list ≡ 96) where
     pub function-stopped : {q : Pen} → r ≡ typeOpening.Stopped q → Wrote (page b p) (walked c t h (functionOf i name)) (page b q)
     function-stopped f = wrote-first (type-stopped s d call _ 96 (functionOf i name) way.Function i (function-entry i name n) (functionText c name) (function-body i name n) b z room (omega arith) f) room
 
@@ -230,7 +230,7 @@ module _ (s d : List ℕ) (call : Call) where
     function-open f v = wrote-first (type-open s d call _ 96 (functionOf i name) way.Function i (function-entry i name n) (functionText c name) (function-body i name n) b z room (omega arith) f v) room
 
   -- A member function id, and a function id.
-  module _ (i : ℕ) (name : List ℕ) {p : Pen} {list l : List ℕ} {r : TypeOpening} (b : List ℕ) (z : OpensType s (call .types) p list 96 way.Function i l r)
+  module _ (i : ℕ) (name : List ℕ) {p : Pen} {list l : List ℕ} {r : TypeOpening} (b : List ℕ) (z : OpensType s (d .near .bounds) (d .near .places) p list 96 way.Function i l r)
       (room : length list ≡ 96) where
     module _ (parent : ℕ) where
       member-entry : entryOf c t (memberId parent i name) ≡ opens (key 0 i)
@@ -265,14 +265,14 @@ module _ (s d : List ℕ) (call : Call) where
       function-id-open f v = wrote-first (type-open s d call _ 96 (functionId scope i name) way.Function i function-id-entry (functionIdText c scope i name) function-id-body b z room (omega arith) f v) room
 
   -- An id: it is read, then counted in its chain, and starts a list of its own, so what is open before it does not matter.
-  module _ (o : List ℕ) (i : ℕ) (r : IdRead) (e : r ≡ readId d (call .ids) i) where
-    id-good-read : (x : IdData) → r ≡ idRead.Good x → t .ids i ≡ good (idContents d x)
-    unfolding tableIn tableOf idAsRead
-    id-good-read x f = let k : readId d (call .ids) i ≡ idRead.Good x = cc in rw k
+  module _ (o : List ℕ) (i : ℕ) (r : IdRead) (e : r ≡ readIdIn (d .ids) (d .near .bounds) (d .near .places) i) where
+    id-good-read : (x : IdData) → r ≡ idRead.Good x → t .ids i ≡ good (idContents (d .ids) x)
+    unfolding tableIn tableBy idAsRead
+    id-good-read x f = let k : readIdIn (d .ids) (d .near .bounds) (d .near .places) i ≡ idRead.Good x = cc in rw k
 
     id-bad-read : (f : Refusal) → r ≡ idRead.Refused f → t .ids i ≡ bad f
-    unfolding tableIn tableOf idAsRead
-    id-bad-read f g = let k : readId d (call .ids) i ≡ idRead.Refused f = cc in rw k
+    unfolding tableIn tableBy idAsRead
+    id-bad-read f g = let k : readIdIn (d .ids) (d .near .bounds) (d .near .places) i ≡ idRead.Refused f = cc in rw k
 
     pub id-bad : (f : Refusal) → r ≡ idRead.Refused f → step ⨾ markTrace f ≡ walked c t (holding call o) (idOf i)
     unfolding entryOf body afterRead idAlone
@@ -284,24 +284,24 @@ module _ (s d : List ℕ) (call : Call) where
         → prefix [] [] (count 0 1) (tr [] (halted (long i)) [] (count 0 0)) ≡ walked c t (holding call o) (idOf i)
     unfolding walked entryOf afterRead holding
     id-long x f l =
-        let k : t .ids i ≡ good (idContents d x) = id-good-read x f in
+        let k : t .ids i ≡ good (idContents (d .ids) x) = id-good-read x f in
         walk-long sameIndex (entryOf c t) (body c t) rank (ranked c t) (holding call o) (idOf i) i (rw k) (le-leb 32 (call .chain) l)
 
     id-fresh : (x : IdData) → r ≡ idRead.Good x → call .chain < 32
-        → step ⨾ ruled c t (held (suc (call .chain)) []) (idText c (idContents d x)) ≡ walked c t (holding call o) (idOf i)
+        → step ⨾ ruled c t (held (suc (call .chain)) []) (idText c (idContents (d .ids) x)) ≡ walked c t (holding call o) (idOf i)
     unfolding walked ruled entryOf body afterRead idAlone holding step _⨾_
     id-fresh x f l =
-        let k : t .ids i ≡ good (idContents d x) = id-good-read x f in
-        let b : body c t (idOf i) ≡ idText c (idContents d x) = rw k in
+        let k : t .ids i ≡ good (idContents (d .ids) x) = id-good-read x f in
+        let b : body c t (idOf i) ≡ idText c (idContents (d .ids) x) = rw k in
         rw (← b) (walk-fresh sameIndex (entryOf c t) (body c t) rank (ranked c t) (holding call o) (idOf i) i (rw k) (lt-leb 32 (call .chain) l))
 
-  held-by : (o : List ℕ) (i : ℕ) (r : IdRead) → r ≡ readId d (call .ids) i → Dec (call .chain < 32) → walked c t h (idOf i) ≡ walked c t (holding call o) (idOf i)
+  held-by : (o : List ℕ) (i : ℕ) (r : IdRead) → r ≡ readIdIn (d .ids) (d .near .bounds) (d .near .places) i → Dec (call .chain < 32) → walked c t h (idOf i) ≡ walked c t (holding call o) (idOf i)
   held-by o i (idRead.Good x) e (yes l) = sym (id-fresh [] i (idRead.Good x) e x refl l) ∙ id-fresh o i (idRead.Good x) e x refl l
   held-by o i (idRead.Good x) e (no l) = sym (id-long [] i (idRead.Good x) e x refl (omega arith)) ∙ id-long o i (idRead.Good x) e x refl (omega arith)
   held-by o i (idRead.Refused f) e l = sym (id-bad [] i (idRead.Refused f) e f refl) ∙ id-bad o i (idRead.Refused f) e f refl
 
   id-held : (o : List ℕ) (i : ℕ) → walked c t h (idOf i) ≡ walked c t (holding call o) (idOf i)
-  id-held o i = held-by o i (readId d (call .ids) i) refl (decLt (call .chain) 32)
+  id-held o i = held-by o i (readIdIn (d .ids) (d .near .bounds) (d .near .places) i) refl (decLt (call .chain) 32)
 
   -- What is done with a function type that was read, by its kind, whatever is open.
   module _ (o : List ℕ) (x : TypeData) where
@@ -367,26 +367,26 @@ pub end-named : (c : Settings) (t : Table) (h : Held) (before bs name : List ℕ
 end-named c t h before bs name list e = rw e
 
 -- The id behind its own count: what the writers do for the call with one id more.
-inner-is : (s d : List ℕ) (call k : Call) (p : Settings → Rule) → k ≡ further call
-    → ruled (settingsOf k) (tableIn s d k) (holding k []) (p (settingsOf k)) ≡ ruled (settingsOf call) (tableIn s d call) (held (suc (call .chain)) []) (p (settingsOf call))
-unfolding settingsOf tableIn holding keysOf
+inner-is : (s : List ℕ) (d : Lent) (call k : Call) (p : Settings → Rule) → k ≡ further call
+    → ruled (settingsOf k) (tableIn s d) (holding k []) (p (settingsOf k)) ≡ ruled (settingsOf call) (tableIn s d) (held (suc (call .chain)) []) (p (settingsOf call))
+unfolding settingsOf holding keysOf
 inner-is s d call k p e = let a : call .chain + 1 ≡ suc (call .chain) = add-one (call .chain) in rw (e, a)
 
-module _ (s d : List ℕ) (call k : Call) (i : ℕ) (r : IdRead) (x : IdData) (e : r ≡ readId d (call .ids) i) (f : r ≡ idRead.Good x) (l : call .chain < 32)
+module _ (s : List ℕ) (d : Lent) (call k : Call) (i : ℕ) (r : IdRead) (x : IdData) (e : r ≡ readIdIn (d .ids) (d .near .bounds) (d .near .places) i) (f : r ≡ idRead.Good x) (l : call .chain < 32)
     (g : k ≡ further call) where
-  id-in : step ⨾ ruled (settingsOf k) (tableIn s d k) (holding k []) (idText (settingsOf k) (idContents d x)) ≡ walked (settingsOf call) (tableIn s d call) (holding call []) (idOf i)
+  id-in : step ⨾ ruled (settingsOf k) (tableIn s d) (holding k []) (idText (settingsOf k) (idContents (d .ids) x)) ≡ walked (settingsOf call) (tableIn s d) (holding call []) (idOf i)
   id-in =
-      ap (λ (x : Trace Refusal). step ⨾ x) (inner-is s d call k (λ c. idText c (idContents d x)) g)
+      ap (λ (x : Trace Refusal). step ⨾ x) (inner-is s d call k (λ c. idText c (idContents (d .ids) x)) g)
       ∙ id-fresh s d call [] i r e x f l
 
   pub id-other : OneOf noFunctionId (tagOf the-id-type x)
-      → step ⨾ ruled (settingsOf k) (tableIn s d k) (holding k []) (otherText (settingsOf k) (idContents d x)) ≡ walked (settingsOf call) (tableIn s d call) (holding call []) (idOf i)
+      → step ⨾ ruled (settingsOf k) (tableIn s d) (holding k []) (otherText (settingsOf k) (idContents (d .ids) x)) ≡ walked (settingsOf call) (tableIn s d) (holding call []) (idOf i)
   id-other n =
-      ap (λ (p : Rule). step ⨾ ruled (settingsOf k) (tableIn s d k) (holding k []) p) (other-id (settingsOf k) d x n) ∙ id-in
+      ap (λ (p : Rule). step ⨾ ruled (settingsOf k) (tableIn s d) (holding k []) p) (other-id (settingsOf k) (d .ids) x n) ∙ id-in
 
   pub id-function : (w : FunctionId) (y : Trace Refusal) → x ≡ id.Function w
-      → y ≡ walked (settingsOf k) (tableIn s d k) (holding k []) (functionId (w .scope .0) (w .function .0) (nameAt d (w .name)))
-      → step ⨾ y ≡ walked (settingsOf call) (tableIn s d call) (holding call []) (idOf i)
+      → y ≡ walked (settingsOf k) (tableIn s d) (holding k []) (functionId (w .scope .0) (w .function .0) (nameAt (d .ids) (w .name)))
+      → step ⨾ y ≡ walked (settingsOf call) (tableIn s d) (holding call []) (idOf i)
   unfolding ruled exec idText idContents
   id-function w y a b = rw b (rw a at id-in)
 
@@ -395,26 +395,26 @@ pub chained : (call k : Call) (n : ℕ) → k ≡ further call → (call .chain 
 chained call k n e f = rw e f
 
 -- Any other id, by its kind.
-module _ (s d : List ℕ) (call : Call) (x : IdData) where
+module _ (s : List ℕ) (d : Lent) (call : Call) (x : IdData) where
   abbrev other : Trace Refusal
-  other = ruled (settingsOf call) (tableIn s d call) (holding call []) (otherText (settingsOf call) (idContents d x))
+  other = ruled (settingsOf call) (tableIn s d) (holding call []) (otherText (settingsOf call) (idContents (d .ids) x))
 
   pub other-function : (w : FunctionId) → x ≡ id.Function w → writing [] ≡ other
   unfolding ruled exec otherText idContents
   other-function w e = rw e
 
   pub other-member : (w : MemberFunctionId) → x ≡ id.MemberFunction w
-      → walked (settingsOf call) (tableIn s d call) (holding call []) (memberId (w .parent .0) (w .function .0) (nameAt d (w .name))) ≡ other
+      → walked (settingsOf call) (tableIn s d) (holding call []) (memberId (w .parent .0) (w .function .0) (nameAt (d .ids) (w .name))) ≡ other
   unfolding ruled exec otherText idText idContents
   other-member w e = rw e
 
   pub other-list : (w : Entries) → x ≡ id.StringList w
-      → writing (bytes "\"") ⨾ ruled (settingsOf call) (tableIn s d call) (holding call []) (stringEntries (settingsOf call) false (numbersAt d (w .start) (w .count))) ⨾ writing (bytes "\"")
+      → writing (bytes "\"") ⨾ ruled (settingsOf call) (tableIn s d) (holding call []) (stringEntries (settingsOf call) false (numbersAt (d .ids) (w .start) (w .count))) ⨾ writing (bytes "\"")
       ≡ other
   unfolding ruled exec otherText idText idContents _⨾_
   other-list w e = rw e
 
-  pub other-string : (w : StringId) (bs : List ℕ) → x ≡ id.String w → bs ≡ nameAt d (w .name) → writing (stringText bs) ≡ other
+  pub other-string : (w : StringId) (bs : List ℕ) → x ≡ id.String w → bs ≡ nameAt (d .ids) (w .name) → writing (stringText bs) ≡ other
   unfolding ruled exec otherText idText idContents
   other-string w bs e f = rw (e, f)
 

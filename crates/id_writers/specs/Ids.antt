@@ -13,7 +13,7 @@ use Rattle.context.specs.declared.flags.Call.{Call}
 
 -- A call whose chain of scopes has one id more.
 abbrev pub further : Call → Call
-further c = record { flags = c .flags; size = c .size; chain = c .chain + 1; types = c .types; ids = c .ids }
+further c = record { flags = c .flags; size = c .size; chain = c .chain + 1 }
 
 -- What ends a procedure's text: what stands before its name, the name, and the arguments.
 abbrev pub procedureEnd : Settings → List ℕ → List ℕ → ℕ → Rule

@@ -6,6 +6,7 @@ ghost use Prim.Native.Nat.{_+_, _≤_, _<_};
 ghost use lib.ListN.{length};
 ghost use Rattle.interpreter.specs.Trace.{write};
 ghost use Rattle.rules.specs.Record.{idContents, nameAt};
+ghost use Rattle.rules.specs.Places.{lent};
 ghost use Rattle.rules.specs.Task.{functionOf, idOf, memberId};
 ghost use Rattle.rules.specs.Types.{procedureResult, returned};
 ghost use Rattle.rules.specs.Methods.{methodNamed, procedureNamed};
@@ -52,15 +53,11 @@ fn deeper(call: Call) -> Call
     requires { ⌜ call .chain < 32 ⌝ }
     ensures { λ r. ⌜ r ≡ further call ⌝ }
 {
-    let types = call.types;
-    let ids = call.ids;
     let flags = call.flags;
     Call {
         flags,
         size: call.size,
         chain: call.chain + 1,
-        types,
-        ids,
     }
 }
 
@@ -68,6 +65,8 @@ fn deeper(call: Call) -> Call
 fn emit_procedure_end(
     types: &[u8],
     ids: &[u8],
+    bounds: &[u32],
+    places: &[u32],
     out: &mut [u8],
     p: Pen,
     call: Call,
@@ -78,7 +77,7 @@ fn emit_procedure_end(
     list: TypeIndex,
 ) -> Pen
     requires { ⌜ (length (now seen) ≡ 96) × (left ≤ 96) ⌝ }
-    ensures { λ r. ⌜ Writes left (now (seen .entry)) (now (seen .exit)) (page (now (out .entry)) p) (λ o. ruling (now (types .entry)) (now (ids .entry)) call o (procedureEnd (settingsOf call) (now (before .entry)) (now (name .entry)) (list .0))) (page (now (out .exit)) r) ⌝ }
+    ensures { λ r. ⌜ Writes left (now (seen .entry)) (now (seen .exit)) (page (now (out .entry)) p) (λ o. ruling (now (types .entry)) (lent (now (ids .entry)) (now (bounds .entry)) (now (places .entry))) call o (procedureEnd (settingsOf call) (now (before .entry)) (now (name .entry)) (list .0))) (page (now (out .exit)) r) ⌝ }
 {
     let a = pen::text(out, p, before);
     let b = emit_name_str(out, a, name);
@@ -86,7 +85,7 @@ fn emit_procedure_end(
         return b;
     }
     let c = pen::text(out, b, b"(");
-    let d = emit_type_index(types, ids, out, c, call, seen, left, list);
+    let d = emit_type_index(types, ids, bounds, places, out, c, call, seen, left, list);
     pen::text(out, d, b")")
 }
 
@@ -94,6 +93,8 @@ fn emit_procedure_end(
 fn emit_result(
     types: &[u8],
     ids: &[u8],
+    bounds: &[u32],
+    places: &[u32],
     out: &mut [u8],
     p: Pen,
     call: Call,
@@ -102,17 +103,31 @@ fn emit_result(
     x: ProcedureType,
 ) -> Pen
     requires { ⌜ (length (now seen) ≡ 96) × (left ≤ 96) ⌝ }
-    ensures { λ r. ⌜ Writes left (now (seen .entry)) (now (seen .exit)) (page (now (out .entry)) p) (λ o. ruling (now (types .entry)) (now (ids .entry)) call o (returned (settingsOf call) (procedureResult (settingsOf call) (x .constructor) (x .result .0)))) (page (now (out .exit)) r) ⌝ }
+    ensures { λ r. ⌜ Writes left (now (seen .entry)) (now (seen .exit)) (page (now (out .entry)) p) (λ o. ruling (now (types .entry)) (lent (now (ids .entry)) (now (bounds .entry)) (now (places .entry))) call o (returned (settingsOf call) (procedureResult (settingsOf call) (x .constructor) (x .result .0)))) (page (now (out .exit)) r) ⌝ }
 {
     let result = x.result;
     let none = hides_return(call, is_void(x.constructor, result));
-    emit_return_type(types, ids, out, p, call, seen, left, none, result)
+    emit_return_type(
+        types,
+        ids,
+        bounds,
+        places,
+        out,
+        p,
+        call,
+        seen,
+        left,
+        none,
+        result,
+    )
 }
 
 // A procedure by its name.
 fn emit_procedure(
     types: &[u8],
     ids: &[u8],
+    bounds: &[u32],
+    places: &[u32],
     out: &mut [u8],
     p: Pen,
     call: Call,
@@ -122,17 +137,32 @@ fn emit_procedure(
     x: ProcedureType,
 ) -> Pen
     requires { ⌜ (length (now seen) ≡ 96) × (left ≤ 96) ⌝ }
-    ensures { λ r. ⌜ Writes left (now (seen .entry)) (now (seen .exit)) (page (now (out .entry)) p) (λ o. ruling (now (types .entry)) (now (ids .entry)) call o (procedureNamed (settingsOf call) (x .result .0) (x .constructor) (x .arguments .0) (write []) (now (name .entry)))) (page (now (out .exit)) r) ⌝ }
+    ensures { λ r. ⌜ Writes left (now (seen .entry)) (now (seen .exit)) (page (now (out .entry)) p) (λ o. ruling (now (types .entry)) (lent (now (ids .entry)) (now (bounds .entry)) (now (places .entry))) call o (procedureNamed (settingsOf call) (x .result .0) (x .constructor) (x .arguments .0) (write []) (now (name .entry)))) (page (now (out .exit)) r) ⌝ }
 {
     let list = x.arguments;
-    let a = emit_result(types, ids, out, p, call, seen, left, x);
-    emit_procedure_end(types, ids, out, a, call, seen, left, b"", name, list)
+    let a = emit_result(types, ids, bounds, places, out, p, call, seen, left, x);
+    emit_procedure_end(
+        types,
+        ids,
+        bounds,
+        places,
+        out,
+        a,
+        call,
+        seen,
+        left,
+        b"",
+        name,
+        list,
+    )
 }
 
 // The name and the arguments of a function id.
 fn emit_id_end(
     types: &[u8],
     ids: &[u8],
+    bounds: &[u32],
+    places: &[u32],
     out: &mut [u8],
     p: Pen,
     call: Call,
@@ -143,13 +173,15 @@ fn emit_id_end(
     x: ProcedureType,
 ) -> Pen
     requires { ⌜ (length (now seen) ≡ 96) × (left ≤ 96) ⌝ }
-    ensures { λ r. ⌜ Writes left (now (seen .entry)) (now (seen .exit)) (page (now (out .entry)) p) (λ o. ruling (now (types .entry)) (now (ids .entry)) call o (procedureEnd (settingsOf call) (now (before .entry)) (nameAt (now (ids .entry)) (f .name)) (x .arguments .0))) (page (now (out .exit)) r) ⌝ }
+    ensures { λ r. ⌜ Writes left (now (seen .entry)) (now (seen .exit)) (page (now (out .entry)) p) (λ o. ruling (now (types .entry)) (lent (now (ids .entry)) (now (bounds .entry)) (now (places .entry))) call o (procedureEnd (settingsOf call) (now (before .entry)) (nameAt (now (ids .entry)) (f .name)) (x .arguments .0))) (page (now (out .exit)) r) ⌝ }
 {
     let list = x.arguments;
     let name = f.name;
     emit_procedure_end(
         types,
         ids,
+        bounds,
+        places,
         out,
         p,
         call,
@@ -165,24 +197,36 @@ fn emit_id_end(
 pub fn emit_function(
     types: &[u8],
     ids: &[u8],
+    bounds: &[u32],
+    places: &[u32],
     out: &mut [u8],
     p: Pen,
     call: Call,
     name: &[u8],
     index: TypeIndex,
 ) -> Pen
-    ensures { λ r. ⌜ Wrote (page (now (out .entry)) p) (walking (now (types .entry)) (now (ids .entry)) call [] (functionOf (index .0) (now (name .entry)))) (page (now (out .exit)) r) ⌝ }
+    ensures { λ r. ⌜ Wrote (page (now (out .entry)) p) (walking (now (types .entry)) (lent (now (ids .entry)) (now (bounds .entry)) (now (places .entry))) call [] (functionOf (index .0) (now (name .entry)))) (page (now (out .exit)) r) ⌝ }
 {
     if index.0 == 0 {
         return emit_name_str(out, p, name);
     }
     let mut list = [0u64; 96];
-    let stream = call.types;
-    match open_type(types, stream, p, &mut list, 96, Way::Function, index) {
+    match open_type(
+        types,
+        bounds,
+        places,
+        p,
+        &mut list,
+        96,
+        Way::Function,
+        index,
+    ) {
         TypeOpening::Open(q, n, t) => match t {
             TypeData::MemberFunction(m) => emit_method(
                 types,
                 ids,
+                bounds,
+                places,
                 out,
                 q,
                 call,
@@ -194,6 +238,8 @@ pub fn emit_function(
             TypeData::Procedure(x) => emit_procedure(
                 types,
                 ids,
+                bounds,
+                places,
                 out,
                 q,
                 call,
@@ -212,6 +258,8 @@ pub fn emit_function(
 fn emit_method(
     types: &[u8],
     ids: &[u8],
+    bounds: &[u32],
+    places: &[u32],
     out: &mut [u8],
     p: Pen,
     call: Call,
@@ -221,21 +269,47 @@ fn emit_method(
     m: MemberFunctionType,
 ) -> Pen
     requires { ⌜ (length (now seen) ≡ 96) × (left ≤ 96) ⌝ }
-    ensures { λ r. ⌜ Writes left (now (seen .entry)) (now (seen .exit)) (page (now (out .entry)) p) (λ o. ruling (now (types .entry)) (now (ids .entry)) call o (methodNamed (settingsOf call) (methodOf m) (write []) (now (name .entry)))) (page (now (out .exit)) r) ⌝ }
+    ensures { λ r. ⌜ Writes left (now (seen .entry)) (now (seen .exit)) (page (now (out .entry)) p) (λ o. ruling (now (types .entry)) (lent (now (ids .entry)) (now (bounds .entry)) (now (places .entry))) call o (methodNamed (settingsOf call) (methodOf m) (write []) (now (name .entry)))) (page (now (out .exit)) r) ⌝ }
 {
     let this = m.this;
     let result = m.result;
     let hidden = hides_return(call, m.constructor);
     let a = maybe_emit_static(out, p, call, this);
-    let b = emit_return_type(types, ids, out, a, call, seen, left, hidden, result);
+    let b = emit_return_type(
+        types,
+        ids,
+        bounds,
+        places,
+        out,
+        a,
+        call,
+        seen,
+        left,
+        hidden,
+        result,
+    );
     let c = emit_name_str(out, b, name);
-    emit_method_args(types, ids, out, c, call, seen, left, m, true)
+    emit_method_args(
+        types,
+        ids,
+        bounds,
+        places,
+        out,
+        c,
+        call,
+        seen,
+        left,
+        m,
+        true,
+    )
 }
 
 // A method by its name and its parent, which is a type.
 fn emit_member(
     types: &[u8],
     ids: &[u8],
+    bounds: &[u32],
+    places: &[u32],
     out: &mut [u8],
     p: Pen,
     call: Call,
@@ -246,36 +320,70 @@ fn emit_member(
     m: MemberFunctionType,
 ) -> Pen
     requires { ⌜ (length (now seen) ≡ 96) × (left ≤ 96) ⌝ }
-    ensures { λ r. ⌜ Writes left (now (seen .entry)) (now (seen .exit)) (page (now (out .entry)) p) (λ o. ruling (now (types .entry)) (now (ids .entry)) call o (memberNamed (settingsOf call) (methodOf m) (parent .0) (now (name .entry)))) (page (now (out .exit)) r) ⌝ }
+    ensures { λ r. ⌜ Writes left (now (seen .entry)) (now (seen .exit)) (page (now (out .entry)) p) (λ o. ruling (now (types .entry)) (lent (now (ids .entry)) (now (bounds .entry)) (now (places .entry))) call o (memberNamed (settingsOf call) (methodOf m) (parent .0) (now (name .entry)))) (page (now (out .exit)) r) ⌝ }
 {
     let this = m.this;
     let result = m.result;
     let hidden = hides_return(call, m.constructor);
     let a = maybe_emit_static(out, p, call, this);
-    let b = emit_return_type(types, ids, out, a, call, seen, left, hidden, result);
-    let c = emit_type_index(types, ids, out, b, call, seen, left, parent);
+    let b = emit_return_type(
+        types,
+        ids,
+        bounds,
+        places,
+        out,
+        a,
+        call,
+        seen,
+        left,
+        hidden,
+        result,
+    );
+    let c = emit_type_index(types, ids, bounds, places, out, b, call, seen, left, parent);
     let d = pen::text(out, c, b"::");
     let e = emit_name_str(out, d, name);
-    emit_method_args(types, ids, out, e, call, seen, left, m, true)
+    emit_method_args(
+        types,
+        ids,
+        bounds,
+        places,
+        out,
+        e,
+        call,
+        seen,
+        left,
+        m,
+        true,
+    )
 }
 
 // A member function id.
 fn emit_member_id(
     types: &[u8],
     ids: &[u8],
+    bounds: &[u32],
+    places: &[u32],
     out: &mut [u8],
     p: Pen,
     call: Call,
     d: MemberFunctionId,
 ) -> Pen
-    ensures { λ r. ⌜ Wrote (page (now (out .entry)) p) (walking (now (types .entry)) (now (ids .entry)) call [] (memberId (d .parent .0) (d .function .0) (nameAt (now (ids .entry)) (d .name)))) (page (now (out .exit)) r) ⌝ }
+    ensures { λ r. ⌜ Wrote (page (now (out .entry)) p) (walking (now (types .entry)) (lent (now (ids .entry)) (now (bounds .entry)) (now (places .entry))) call [] (memberId (d .parent .0) (d .function .0) (nameAt (now (ids .entry)) (d .name)))) (page (now (out .exit)) r) ⌝ }
 {
     let function = d.function;
     let parent = d.parent;
     let name = d.name;
     let mut list = [0u64; 96];
-    let stream = call.types;
-    match open_type(types, stream, p, &mut list, 96, Way::Function, function) {
+    match open_type(
+        types,
+        bounds,
+        places,
+        p,
+        &mut list,
+        96,
+        Way::Function,
+        function,
+    ) {
         TypeOpening::Open(q, n, t) => {
             let TypeData::MemberFunction(m) = t else {
                 return pen::refuse(
@@ -285,15 +393,37 @@ fn emit_member_id(
                 );
             };
             let shown = name_of(ids, name);
-            emit_member(types, ids, out, q, call, &mut list, n, parent, shown, m)
+            emit_member(
+                types,
+                ids,
+                bounds,
+                places,
+                out,
+                q,
+                call,
+                &mut list,
+                n,
+                parent,
+                shown,
+                m,
+            )
         }
         TypeOpening::Stopped(q) => q,
     }
 }
 
 // The entries of a string list, written as types.
-fn emit_string_list(types: &[u8], ids: &[u8], out: &mut [u8], p: Pen, call: Call, e: Entries) -> Pen
-    ensures { λ r. ⌜ Wrote (page (now (out .entry)) p) (ruling (now (types .entry)) (now (ids .entry)) call [] (stringEntries (settingsOf call) false (entriesAt (now (ids .entry)) e))) (page (now (out .exit)) r) ⌝ }
+fn emit_string_list(
+    types: &[u8],
+    ids: &[u8],
+    bounds: &[u32],
+    places: &[u32],
+    out: &mut [u8],
+    p: Pen,
+    call: Call,
+    e: Entries,
+) -> Pen
+    ensures { λ r. ⌜ Wrote (page (now (out .entry)) p) (ruling (now (types .entry)) (lent (now (ids .entry)) (now (bounds .entry)) (now (places .entry))) call [] (stringEntries (settingsOf call) false (entriesAt (now (ids .entry)) e))) (page (now (out .exit)) r) ⌝ }
 {
     let mut list = [0u64; 96];
     let mut q = p;
@@ -305,7 +435,18 @@ fn emit_string_list(types: &[u8], ids: &[u8], out: &mut [u8], p: Pen, call: Call
         }
         let c = text_if(out, q, between, b"\" \"");
         let index = TypeIndex(entry_at(ids, e, i));
-        q = emit_type_index(types, ids, out, c, call, &mut list, 96, index);
+        q = emit_type_index(
+            types,
+            ids,
+            bounds,
+            places,
+            out,
+            c,
+            call,
+            &mut list,
+            96,
+            index,
+        );
         between = true;
         i += 1;
     }
@@ -313,15 +454,24 @@ fn emit_string_list(types: &[u8], ids: &[u8], out: &mut [u8], p: Pen, call: Call
 }
 
 // Any id but a function's.
-fn emit_other_id(types: &[u8], ids: &[u8], out: &mut [u8], p: Pen, call: Call, d: IdData) -> Pen
-    ensures { λ r. ⌜ Wrote (page (now (out .entry)) p) (ruling (now (types .entry)) (now (ids .entry)) call [] (otherText (settingsOf call) (idContents (now (ids .entry)) d))) (page (now (out .exit)) r) ⌝ }
+fn emit_other_id(
+    types: &[u8],
+    ids: &[u8],
+    bounds: &[u32],
+    places: &[u32],
+    out: &mut [u8],
+    p: Pen,
+    call: Call,
+    d: IdData,
+) -> Pen
+    ensures { λ r. ⌜ Wrote (page (now (out .entry)) p) (ruling (now (types .entry)) (lent (now (ids .entry)) (now (bounds .entry)) (now (places .entry))) call [] (otherText (settingsOf call) (idContents (now (ids .entry)) d))) (page (now (out .exit)) r) ⌝ }
 {
     match d {
         IdData::Function(_) => p,
-        IdData::MemberFunction(m) => emit_member_id(types, ids, out, p, call, m),
+        IdData::MemberFunction(m) => emit_member_id(types, ids, bounds, places, out, p, call, m),
         IdData::StringList(e) => {
             let a = pen::text(out, p, b"\"");
-            let b = emit_string_list(types, ids, out, a, call, e);
+            let b = emit_string_list(types, ids, bounds, places, out, a, call, e);
             pen::text(out, b, b"\"")
         }
         IdData::String(s) => {
@@ -336,6 +486,8 @@ fn emit_other_id(types: &[u8], ids: &[u8], out: &mut [u8], p: Pen, call: Call, d
 pub fn emit_id(
     types: &[u8],
     ids: &[u8],
+    bounds: &[u32],
+    places: &[u32],
     out: &mut [u8],
     p: Pen,
     call: Call,
@@ -343,37 +495,80 @@ pub fn emit_id(
     index: IdIndex,
 ) -> Pen
     requires { ⌜ call .chain + allowance ≡ 32 ⌝ }
-    ensures { λ r. ⌜ Wrote (page (now (out .entry)) p) (walking (now (types .entry)) (now (ids .entry)) call [] (idOf (index .0))) (page (now (out .exit)) r) ⌝ }
+    ensures { λ r. ⌜ Wrote (page (now (out .entry)) p) (walking (now (types .entry)) (lent (now (ids .entry)) (now (bounds .entry)) (now (places .entry))) call [] (idOf (index .0))) (page (now (out .exit)) r) ⌝ }
 {
     if pen::is_idle(p) {
         return p;
     }
-    let stream = call.ids;
-    match id_at(ids, stream, index) {
+    match id_at(ids, bounds, places, index) {
         IdRead::Good(d) => {
             if allowance == 0 {
                 return pen::too_long(out, p, index.0);
             }
             let inner = deeper(call);
             let IdData::Function(f) = d else {
-                return emit_other_id(types, ids, out, p, inner, d);
+                return emit_other_id(types, ids, bounds, places, out, p, inner, d);
             };
             let function = f.function;
             let mut list = [0u64; 96];
-            let stream = inner.types;
-            match open_type(types, stream, p, &mut list, 96, Way::Function, function) {
+            match open_type(
+                types,
+                bounds,
+                places,
+                p,
+                &mut list,
+                96,
+                Way::Function,
+                function,
+            ) {
                 TypeOpening::Open(q, n, t) => {
                     let TypeData::Procedure(x) = t else {
                         let wrong = Refusal::FunctionIdIsNotProcedureType(function.0);
                         return pen::refuse(out, q, wrong);
                     };
                     let scope = f.scope;
-                    let a = emit_result(types, ids, out, q, inner, &mut list, n, x);
+                    let a = emit_result(types, ids, bounds, places, out, q, inner, &mut list, n, x);
                     if scope.0 == 0 {
-                        return emit_id_end(types, ids, out, a, inner, &mut list, n, b"", f, x);
+                        return emit_id_end(
+                            types,
+                            ids,
+                            bounds,
+                            places,
+                            out,
+                            a,
+                            inner,
+                            &mut list,
+                            n,
+                            b"",
+                            f,
+                            x,
+                        );
                     }
-                    let b = emit_id(types, ids, out, a, inner, allowance - 1, scope);
-                    emit_id_end(types, ids, out, b, inner, &mut list, n, b"::", f, x)
+                    let b = emit_id(
+                        types,
+                        ids,
+                        bounds,
+                        places,
+                        out,
+                        a,
+                        inner,
+                        allowance - 1,
+                        scope,
+                    );
+                    emit_id_end(
+                        types,
+                        ids,
+                        bounds,
+                        places,
+                        out,
+                        b,
+                        inner,
+                        &mut list,
+                        n,
+                        b"::",
+                        f,
+                        x,
+                    )
                 }
                 TypeOpening::Stopped(q) => q,
             }

@@ -54,22 +54,22 @@ same-length-2 : tie.Need-same-length-2
 same-length-2 c = writes-length (c .before .before .before .emit-method .ensures)
 
 returns-2 : tie.Need-returns-2
-returns-2 c = function-open _ _ _ _ _ (c .before .before .before .before .before .before .before .before .before .before .before .before .before .before .before .before .if1 .left) _ (c .before .before .before .before .before .before .before .before .before .before .before .before .before .open-type .ensures) (search needs) (c .before .before .before .before .before .before .before .before .before .before .q .given .1) (writes-by (c .before .before .before .emit-method .ensures) (function-method _ _ _ _ _ _ _ (c .before .before .before .before .before .before .before .t .given .1)))
+returns-2 c = function-open _ _ _ _ _ (c .before .before .before .before .before .before .before .before .before .before .before .before .before .before .before .if1 .left) _ (c .before .before .before .before .before .before .before .before .before .before .before .before .before .open-type .ensures) (search needs) (c .before .before .before .before .before .before .before .before .before .before .q .given .1) (writes-by (c .before .before .before .emit-method .ensures) (function-method _ _ _ _ _ _ _ (c .before .before .before .before .before .before .before .t .given .1)))
 
 same-length-3 : tie.Need-same-length-3
 same-length-3 c = writes-length (c .before .before .before .emit-procedure .ensures)
 
 returns-3 : tie.Need-returns-3
-returns-3 c = function-open _ _ _ _ _ (c .before .before .before .before .before .before .before .before .before .before .before .before .before .before .before .before .if1 .left) _ (c .before .before .before .before .before .before .before .before .before .before .before .before .before .open-type .ensures) (search needs) (c .before .before .before .before .before .before .before .before .before .before .q .given .1) (writes-by (c .before .before .before .emit-procedure .ensures) (function-procedure _ _ _ _ _ _ _ (c .before .before .before .before .before .before .before .t2 .given .1)))
+returns-3 c = function-open _ _ _ _ _ (c .before .before .before .before .before .before .before .before .before .before .before .before .before .before .before .if1 .left) _ (c .before .before .before .before .before .before .before .before .before .before .before .before .before .open-type .ensures) (search needs) (c .before .before .before .before .before .before .before .before .before .before .q .given .1) (writes-by (c .before .before .before .emit-procedure .ensures) (function-procedure _ _ _ _ _ _ _ (c .before .before .before .before .before .before .before .t2 .given .1)))
 
 same-length-4 : tie.Need-same-length-4
 same-length-4 c = wrote-length (c .before .before .text .ensures)
 
 returns-4 : tie.Need-returns-4
-returns-4 c = function-open _ _ _ _ _ (c .before .before .before .before .before .before .before .before .before .before .before .before .if1 .left) _ (c .before .before .before .before .before .before .before .before .before .open-type .ensures) (search needs) (c .before .before .before .before .before .before .q .given .1) (writes-by (plain (c .before .before .text .ensures)) (function-other _ _ _ _ _ _ (c .before .before .before .before .match2 .keys3)))
+returns-4 c = function-open _ _ _ _ _ (c .before .before .before .before .before .before .before .before .before .before .before .if1 .left) _ (c .before .before .before .before .before .before .before .before .before .open-type .ensures) (search needs) (c .before .before .before .before .before .before .q .given .1) (writes-by (plain (c .before .before .text .ensures)) (function-other _ _ _ _ _ _ (c .before .before .before .before .match2 .keys3)))
 
 returns-5 : tie.Need-returns-5
-returns-5 c = function-stopped _ _ _ _ _ (c .before .before .before .before .before .before .before .if1 .left) _ (c .before .before .before .before .open-type .ensures) (search needs) (c .before .q2 .given .1)
+returns-5 c = function-stopped _ _ _ _ _ (c .before .before .before .before .before .before .if1 .left) _ (c .before .before .before .before .open-type .ensures) (search needs) (c .before .q2 .given .1)
 
 pub emit-function-spec : {M : Type 1} → statement M
 emit-function-spec =

@@ -27,7 +27,7 @@ emit-return-type-requires : tie.Need-emit-return-type-requires
 emit-return-type-requires c κs = search needs
 
 emit-type-index-requires : tie.Need-emit-type-index-requires
-emit-type-index-requires c κs = search needs
+emit-type-index-requires c κs = (c .before .before .before .seen .given ∙ c .before .before .before .before .before .before .before .before .before .before .before .before .before .before .before .before .before .before .before .before .before .before .before .pre .0, c .before .before .before .before .before .before .before .before .before .before .before .before .before .before .before .before .before .before .before .before .before .before .before .pre .1)
 
 slice-aggregate-text : tie.Need-slice-aggregate-text
 slice-aggregate-text c = search needs
@@ -39,7 +39,7 @@ emit-name-str-requires : tie.Need-emit-name-str-requires
 emit-name-str-requires c κs = search needs
 
 emit-method-args-requires : tie.Need-emit-method-args-requires
-emit-method-args-requires c κs = (c .before .before .before .before .before .before .before .before .before .before .before .before .seen2 .given ∙ c .before .before .before .before .before .before .before .before .before .before .before .before .before .before .before .before .before .before .before .seen .given ∙ c .before .before .before .before .before .before .before .before .before .before .before .before .before .before .before .before .before .before .before .before .before .before .before .before .before .before .before .before .before .before .before .before .before .before .before .before .before .pre .0, c .before .before .before .before .before .before .before .before .before .before .before .before .before .before .before .before .before .before .before .before .before .before .before .before .before .before .before .before .before .before .before .before .before .before .before .before .before .pre .1)
+emit-method-args-requires c κs = (c .before .before .before .before .before .before .before .before .before .before .before .before .seen2 .given ∙ c .before .before .before .before .before .before .before .before .before .before .before .before .before .before .before .before .before .before .before .seen .given ∙ c .before .before .before .before .before .before .before .before .before .before .before .before .before .before .before .before .before .before .before .before .before .before .before .before .before .before .before .before .before .before .before .before .before .before .before .before .before .before .before .pre .0, c .before .before .before .before .before .before .before .before .before .before .before .before .before .before .before .before .before .before .before .before .before .before .before .before .before .before .before .before .before .before .before .before .before .before .before .before .before .before .before .pre .1)
 
 same-length : tie.Need-same-length
 same-length c = writes-length (plain (c .before .before .before .before .before .before .before .before .before .before .before .before .before .before .before .before .before .before .before .before .before .before .before .before .before .before .before .before .before .before .before .before .maybe-emit-static .ensures) ▸▸ c .before .before .before .before .before .before .before .before .before .before .before .before .before .before .before .before .before .before .before .before .before .before .before .before .before .before .before .emit-return-type .ensures ▸▸ c .before .before .before .before .before .before .before .before .before .before .before .before .before .before .before .before .before .before .before .before .emit-type-index .ensures ▸▸ plain (c .before .before .before .before .before .before .before .before .before .before .before .before .before .text .ensures) ▸▸ plain (c .before .before .before .before .before .before .before .before .before .emit-name-str .ensures) ▸▸ c .before .before .before .before .emit-method-args .ensures)
@@ -48,7 +48,7 @@ same-length-2 : tie.Need-same-length-2
 same-length-2 c = c .before .seen3 .given ∙ c .before .before .before .before .before .before .before .before .before .before .before .before .before .before .before .before .before .seen2 .given ∙ c .before .before .before .before .before .before .before .before .before .before .before .before .before .before .before .before .before .before .before .before .before .before .before .before .seen .given
 
 returns : tie.Need-returns
-returns c = writes-by (plain (c .before .before .before .before .before .before .before .before .before .before .before .before .before .before .before .before .before .before .before .before .before .before .before .before .before .before .before .before .before .before .before .before .maybe-emit-static .ensures) ▸▸ c .before .before .before .before .before .before .before .before .before .before .before .before .before .before .before .before .before .before .before .before .before .before .before .before .before .before .before .emit-return-type .ensures ▸▸ c .before .before .before .before .before .before .before .before .before .before .before .before .before .before .before .before .before .before .before .before .emit-type-index .ensures ▸▸ plain (c .before .before .before .before .before .before .before .before .before .before .before .before .before .text .ensures) ▸▸ plain (c .before .before .before .before .before .before .before .before .before .emit-name-str .ensures) ▸▸ c .before .before .before .before .emit-method-args .ensures) (member-named _ _ _ (methodOf (c .before .before .before .before .before .before .before .before .before .before .before .before .before .before .before .before .before .before .before .before .before .before .before .before .before .before .before .before .before .before .before .before .before .before .before .before .before .before .before .before .before .before .args .m)) _ _ _ (c .before .before .before .before .before .before .before .before .before .before .before .before .before .before .before .before .before .before .before .before .before .before .before .before .before .before .before .before .before .before .before .before .before .before .hides-return .ensures))
+returns c = writes-by (plain (c .before .before .before .before .before .before .before .before .before .before .before .before .before .before .before .before .before .before .before .before .before .before .before .before .before .before .before .before .before .before .before .before .maybe-emit-static .ensures) ▸▸ c .before .before .before .before .before .before .before .before .before .before .before .before .before .before .before .before .before .before .before .before .before .before .before .before .before .before .before .emit-return-type .ensures ▸▸ c .before .before .before .before .before .before .before .before .before .before .before .before .before .before .before .before .before .before .before .before .emit-type-index .ensures ▸▸ plain (c .before .before .before .before .before .before .before .before .before .before .before .before .before .text .ensures) ▸▸ plain (c .before .before .before .before .before .before .before .before .before .emit-name-str .ensures) ▸▸ c .before .before .before .before .emit-method-args .ensures) (member-named _ _ _ (methodOf (c .before .before .before .before .before .before .before .before .before .before .before .before .before .before .before .before .before .before .before .before .before .before .before .before .before .before .before .before .before .before .before .before .before .before .before .before .before .before .before .before .before .before .before .before .args .m)) _ _ _ (c .before .before .before .before .before .before .before .before .before .before .before .before .before .before .before .before .before .before .before .before .before .before .before .before .before .before .before .before .before .before .before .before .before .before .hides-return .ensures))
 
 pub emit-member-spec : {M : Type 1} → statement M
 emit-member-spec =

@@ -29,7 +29,7 @@ emit-name-str-requires : tie.Need-emit-name-str-requires
 emit-name-str-requires c κs = search needs
 
 emit-method-args-requires : tie.Need-emit-method-args-requires
-emit-method-args-requires c κs = (c .before .before .before .before .before .before .before .seen .given ∙ c .before .before .before .before .before .before .before .before .before .before .before .before .before .before .before .before .before .before .before .before .before .before .before .before .before .pre .0, c .before .before .before .before .before .before .before .before .before .before .before .before .before .before .before .before .before .before .before .before .before .before .before .before .before .pre .1)
+emit-method-args-requires c κs = (c .before .before .before .before .before .before .before .seen .given ∙ c .before .before .before .before .before .before .before .before .before .before .before .before .before .before .before .before .before .before .before .before .before .before .before .before .before .before .before .pre .0, c .before .before .before .before .before .before .before .before .before .before .before .before .before .before .before .before .before .before .before .before .before .before .before .before .before .before .before .pre .1)
 
 same-length : tie.Need-same-length
 same-length c = writes-length (plain (c .before .before .before .before .before .before .before .before .before .before .before .before .before .before .before .before .before .before .before .before .maybe-emit-static .ensures) ▸▸ c .before .before .before .before .before .before .before .before .before .before .before .before .before .before .before .emit-return-type .ensures ▸▸ plain (c .before .before .before .before .before .before .before .before .before .emit-name-str .ensures) ▸▸ c .before .before .before .before .emit-method-args .ensures)
@@ -38,7 +38,7 @@ same-length-2 : tie.Need-same-length-2
 same-length-2 c = c .before .seen2 .given ∙ c .before .before .before .before .before .before .before .before .before .before .before .before .seen .given
 
 returns : tie.Need-returns
-returns c = writes-by (plain (c .before .before .before .before .before .before .before .before .before .before .before .before .before .before .before .before .before .before .before .before .maybe-emit-static .ensures) ▸▸ c .before .before .before .before .before .before .before .before .before .before .before .before .before .before .before .emit-return-type .ensures ▸▸ plain wrote-none ▸▸ plain (c .before .before .before .before .before .before .before .before .before .emit-name-str .ensures) ▸▸ c .before .before .before .before .emit-method-args .ensures) (method-named _ _ _ (methodOf (c .before .before .before .before .before .before .before .before .before .before .before .before .before .before .before .before .before .before .before .before .before .before .before .before .before .before .before .before .before .before .args .m)) _ _ (c .before .before .before .before .before .before .before .before .before .before .before .before .before .before .before .before .before .before .before .before .before .before .hides-return .ensures))
+returns c = writes-by (plain (c .before .before .before .before .before .before .before .before .before .before .before .before .before .before .before .before .before .before .before .before .maybe-emit-static .ensures) ▸▸ c .before .before .before .before .before .before .before .before .before .before .before .before .before .before .before .emit-return-type .ensures ▸▸ plain wrote-none ▸▸ plain (c .before .before .before .before .before .before .before .before .before .emit-name-str .ensures) ▸▸ c .before .before .before .before .emit-method-args .ensures) (method-named _ _ _ (methodOf (c .before .before .before .before .before .before .before .before .before .before .before .before .before .before .before .before .before .before .before .before .before .before .before .before .before .before .before .before .before .before .before .before .args .m)) _ _ (c .before .before .before .before .before .before .before .before .before .before .before .before .before .before .before .before .before .before .before .before .before .before .hides-return .ensures))
 
 pub emit-method-spec : {M : Type 1} → statement M
 emit-method-spec =

@@ -18,7 +18,7 @@ slice-aggregate-emit-procedure-end : tie.Need-slice-aggregate-emit-procedure-end
 slice-aggregate-emit-procedure-end c = search needs
 
 emit-procedure-end-requires : tie.Need-emit-procedure-end-requires
-emit-procedure-end-requires c κs = (c .before .before .before .before .seen .given ∙ c .before .before .before .before .before .before .before .before .before .before .before .before .before .before .before .before .pre .0, c .before .before .before .before .before .before .before .before .before .before .before .before .before .before .before .before .pre .1)
+emit-procedure-end-requires c κs = (c .before .before .before .before .seen .given ∙ c .before .before .before .before .before .before .before .before .before .before .before .before .before .before .before .before .before .before .pre .0, c .before .before .before .before .before .before .before .before .before .before .before .before .before .before .before .before .before .before .pre .1)
 
 same-length : tie.Need-same-length
 same-length c = writes-length (c .before .before .before .before .before .before .before .before .before .before .before .before .emit-result .ensures ▸▸ c .before .before .before .before .emit-procedure-end .ensures)
@@ -27,7 +27,7 @@ same-length-2 : tie.Need-same-length-2
 same-length-2 c = c .before .seen2 .given ∙ c .before .before .before .before .before .before .before .before .before .seen .given
 
 returns : tie.Need-returns
-returns c = writes-by (c .before .before .before .before .before .before .before .before .before .before .before .before .emit-result .ensures ▸▸ c .before .before .before .before .emit-procedure-end .ensures) (procedure-named _ _ _ (c .before .before .before .before .before .before .before .before .before .before .before .before .before .before .before .before .before .before .before .before .before .args .x .result .0) (c .before .before .before .before .before .before .before .before .before .before .before .before .before .before .before .before .before .before .before .before .before .args .x .arguments .0) (c .before .before .before .before .before .before .before .before .before .before .before .before .before .before .before .before .before .before .before .before .before .args .x .constructor) _ _)
+returns c = writes-by (c .before .before .before .before .before .before .before .before .before .before .before .before .emit-result .ensures ▸▸ c .before .before .before .before .emit-procedure-end .ensures) (procedure-named _ _ _ (c .before .before .before .before .before .before .before .before .before .before .before .before .before .before .before .before .before .before .before .before .before .before .before .args .x .result .0) (c .before .before .before .before .before .before .before .before .before .before .before .before .before .before .before .before .before .before .before .before .before .before .before .args .x .arguments .0) (c .before .before .before .before .before .before .before .before .before .before .before .before .before .before .before .before .before .before .before .before .before .before .before .args .x .constructor) _ _)
 
 pub emit-procedure-spec : {M : Type 1} → statement M
 emit-procedure-spec =

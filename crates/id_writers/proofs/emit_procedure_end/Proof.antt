@@ -35,7 +35,7 @@ text-requires-2 : tie.Need-text-requires-2
 text-requires-2 c κs = search needs
 
 emit-type-index-requires : tie.Need-emit-type-index-requires
-emit-type-index-requires c κs = c .before .before .before .before .before .before .before .before .before .before .before .before .before .before .before .before .before .before .before .before .before .before .before .pre
+emit-type-index-requires c κs = c .before .before .before .before .before .before .before .before .before .before .before .before .before .before .before .before .before .before .before .before .before .before .before .before .before .pre
 
 slice-aggregate-text-2 : tie.Need-slice-aggregate-text-2
 slice-aggregate-text-2 c = search needs

@@ -9,6 +9,7 @@ use mathlib.Core.Bool.{false}
 use Rattle.pen.specs.Page.{page}
 use mathlib.Core.List.{[]}
 use Rattle.wire.specs.Text.{bytes}
+use Rattle.rules.specs.Places.{lent}
 use Rattle.context.proofs.Opening.{wrote-first}
 use Rattle.emit.proofs.Laws.{Rest, rest-all, rest-next, rest-none, rest-idle}
 use Rattle.id_writers.proofs.emit_string_list.Statement.{statement}
@@ -21,10 +22,10 @@ use Rattle.leaf_writers.proofs.fragments.entry_at.Reads as entry-at-reads
 use Rattle.emit.proofs.emit_type_index.Reads as emit-type-index-reads
 
 abbrev Inv-loop : tie.InvT-loop
-Inv-loop types ids out₀ call e list₀ q₀ between₀ i₀ t13 out list q between i = (i ≤ e .count) × (length out ≡ length out₀) × (length list ≡ 96) × Rest types ids call [] ids (bytes "\" \"") e false between i (page out q) (page out₀ q₀)
+Inv-loop types ids bounds places out₀ call e list₀ q₀ between₀ i₀ t13 out list q between i = (i ≤ e .count) × (length out ≡ length out₀) × (length list ≡ 96) × Rest types (lent ids bounds places) call [] ids (bytes "\" \"") e false between i (page out q) (page out₀ q₀)
 
 abbrev μ-loop : tie.MeasureT-loop
-μ-loop types ids out₀ call e list₀ q₀ between₀ i₀ t13 out list q between i = e .count - i
+μ-loop types ids bounds places out₀ call e list₀ q₀ between₀ i₀ t13 out list q between i = e .count - i
 
 loop-holds : tie.Need-loop-holds Inv-loop μ-loop
 loop-holds c = (omega arith, refl, search needs, rest-all _ _ _ _ _ _ _ false _)
@@ -54,7 +55,7 @@ emit-type-index-requires : tie.Need-emit-type-index-requires Inv-loop μ-loop
 emit-type-index-requires c κs = (c .before .before .before .before .before .before .before .before .before .before .before .before .loop .inv .2, omega arith)
 
 add-i : tie.Need-add-i Inv-loop μ-loop
-add-i c = search needs
+add-i c = omega (arith, c .before .before .before .before .before .before .before .before .before .before .before .before .before .before .if1 .taken, c .before .before .before .before .before .before .before .before .before .before .before .before .before .before .before .struct-known .given .1 .0)
 
 loop-less : tie.Need-loop-less Inv-loop μ-loop
 loop-less c = search needs

@@ -15,11 +15,11 @@ use Rattle.pen.proofs.refuse.Reads as refuse-reads
 use Rattle.pen.proofs.too_long.Reads as too-long-reads
 use Rattle.leaf_writers.proofs.marks.emit_mark.Reads as emit-mark-reads
 
-abbrev pub μ-emit-id : Measures 3 emit-id-kinds.ps ℕ
-μ-emit-id κs a = a .1 .1 .1 .1 .1 .0
+abbrev pub μ-emit-id : Measures 5 emit-id-kinds.ps ℕ
+μ-emit-id κs a = a .1 .1 .1 .1 .1 .1 .1 .0
 
-abbrev pub emit-id-at : ℕ → In 3 emit-id-kinds.ps
-emit-id-at t = and 3 emit-id-kinds.ps (is 3 emit-id-kinds.ps μ-emit-id t) emit-id.Pre
+abbrev pub emit-id-at : ℕ → In 5 emit-id-kinds.ps
+emit-id-at t = and 5 emit-id-kinds.ps (is 5 emit-id-kinds.ps μ-emit-id t) emit-id.Pre
 
-abbrev pub emit-id-below : ℕ → In 3 emit-id-kinds.ps
-emit-id-below t = and 3 emit-id-kinds.ps (falls 3 emit-id-kinds.ps _<_ μ-emit-id t) emit-id.Pre
+abbrev pub emit-id-below : ℕ → In 5 emit-id-kinds.ps
+emit-id-below t = and 5 emit-id-kinds.ps (falls 5 emit-id-kinds.ps _<_ μ-emit-id t) emit-id.Pre

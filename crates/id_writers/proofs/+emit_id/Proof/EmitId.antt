@@ -40,10 +40,10 @@ too-long-requires : (t : ℕ) → lts.Need-too-long-requires (claims t) (emit-id
 too-long-requires t c κs = search needs
 
 returns-2 : (t : ℕ) → lts.Need-returns-2 (claims t) (emit-id-at t) emit-id.Post
-returns-2 t c = wrote-by (wrote-later 1 (c .too-long .ensures)) (id-long _ _ _ _ _ _ (c .before .before .before .before .before .before .id-at .ensures) _ (c .before .before .before .before .d .given .1) (omega (arith, c .before .before .if2 .taken, c .before .before .before .before .before .before .before .before .before .before .before .before .before .pre)))
+returns-2 t c = wrote-by (wrote-later 1 (c .too-long .ensures)) (id-long _ _ _ _ _ _ (c .before .before .before .before .before .before .id-at .ensures) _ (c .before .before .before .before .d .given .1) (omega (arith, c .before .before .if2 .taken, c .before .before .before .before .before .before .before .before .before .before .before .before .before .before .pre)))
 
 deeper-requires : (t : ℕ) → lts.Need-deeper-requires (claims t) (emit-id-at t) emit-id.Post
-deeper-requires t c κs = omega (arith, c .if2 .left, c .before .before .before .before .before .before .before .before .before .before .before .pre)
+deeper-requires t c κs = omega (arith, c .if2 .left, c .before .before .before .before .before .before .before .before .before .before .before .before .pre)
 
 enum-known-d-2 : (t : ℕ) → lts.Need-enum-known-d-2 (claims t) (emit-id-at t) emit-id.Post
 enum-known-d-2 t c = search needs
@@ -52,7 +52,7 @@ emit-other-id-requires : (t : ℕ) → lts.Need-emit-other-id-requires (claims t
 emit-other-id-requires t c κs = search needs
 
 returns-3 : (t : ℕ) → lts.Need-returns-3 (claims t) (emit-id-at t) emit-id.Post
-returns-3 t c = wrote-by (wrote-step ▸ c .before .before .emit-other-id .ensures) (id-other _ _ _ _ _ _ _ (c .before .before .before .before .before .before .before .before .before .before .id-at .ensures) (c .before .before .before .before .before .before .before .before .d .given .1) (omega (arith, c .before .before .before .before .before .before .if2 .left, c .before .before .before .before .before .before .before .before .before .before .before .before .before .before .before .before .before .pre)) (c .before .before .before .before .before .deeper .ensures) (c .before .before .before .before .match2 .keys2))
+returns-3 t c = wrote-by (wrote-step ▸ c .before .before .emit-other-id .ensures) (id-other _ _ _ _ _ _ _ (c .before .before .before .before .before .before .before .before .before .before .id-at .ensures) (c .before .before .before .before .before .before .before .before .d .given .1) (omega (arith, c .before .before .before .before .before .before .if2 .left, c .before .before .before .before .before .before .before .before .before .before .before .before .before .before .before .before .before .before .pre)) (c .before .before .before .before .before .deeper .ensures) (c .before .before .before .before .match2 .keys2))
 
 slice-aggregate-open-type : (t : ℕ) → lts.Need-slice-aggregate-open-type (claims t) (emit-id-at t) emit-id.Post
 slice-aggregate-open-type t c = search needs
@@ -70,7 +70,7 @@ refuse-requires : (t : ℕ) → lts.Need-refuse-requires (claims t) (emit-id-at 
 refuse-requires t c κs = search needs
 
 returns-4 : (t : ℕ) → lts.Need-returns-4 (claims t) (emit-id-at t) emit-id.Post
-returns-4 t c = wrote-by (wrote-step ▸ function-id-open _ _ _ _ _ _ (c .before .before .before .before .before .before .before .open-type .ensures) (search needs) _ (c .before .before .before .before .q .given .1) (writes-by (plain (c .refuse .ensures)) (function-id-wrong _ _ _ _ _ _ _ _ (c .before .before .match4 .keys2)))) (id-function _ _ _ _ _ _ _ (c .before .before .before .before .before .before .before .before .before .before .before .before .before .before .before .before .before .before .before .id-at .ensures) (c .before .before .before .before .before .before .before .before .before .before .before .before .before .before .before .before .before .d .given .1) (omega (arith, c .before .before .before .before .before .before .before .before .before .before .before .before .before .before .before .if2 .left, c .before .before .before .before .before .before .before .before .before .before .before .before .before .before .before .before .before .before .before .before .before .before .before .before .before .before .pre)) (c .before .before .before .before .before .before .before .before .before .before .before .before .before .before .deeper .ensures) _ _ (c .before .before .before .before .before .before .before .before .before .before .before .before .d2 .given .1) refl)
+returns-4 t c = wrote-by (wrote-step ▸ function-id-open _ _ _ _ _ _ (c .before .before .before .before .before .before .before .open-type .ensures) (search needs) _ (c .before .before .before .before .q .given .1) (writes-by (plain (c .refuse .ensures)) (function-id-wrong _ _ _ _ _ _ _ _ (c .before .before .match4 .keys2)))) (id-function _ _ _ _ _ _ _ (c .before .before .before .before .before .before .before .before .before .before .before .before .before .before .before .before .before .before .id-at .ensures) (c .before .before .before .before .before .before .before .before .before .before .before .before .before .before .before .before .d .given .1) (omega (arith, c .before .before .before .before .before .before .before .before .before .before .before .before .before .before .if2 .left, c .before .before .before .before .before .before .before .before .before .before .before .before .before .before .before .before .before .before .before .before .before .before .before .before .before .before .pre)) (c .before .before .before .before .before .before .before .before .before .before .before .before .before .deeper .ensures) _ _ (c .before .before .before .before .before .before .before .before .before .before .before .d2 .given .1) refl)
 
 slice-aggregate-emit-result : (t : ℕ) → lts.Need-slice-aggregate-emit-result (claims t) (emit-id-at t) emit-id.Post
 slice-aggregate-emit-result t c = search needs
@@ -88,13 +88,13 @@ emit-id-end-requires : (t : ℕ) → lts.Need-emit-id-end-requires (claims t) (e
 emit-id-end-requires t c κs = (c .before .before .before .before .before .list4 .given, omega (arith, type-in (c .before .before .before .before .before .before .before .before .before .before .before .before .before .before .before .before .before .before .before .open-type .ensures) (search needs) (omega arith) (c .before .before .before .before .before .before .before .before .before .before .before .before .before .before .before .before .q .given .1) .0 .next))
 
 returns-5 : (t : ℕ) → lts.Need-returns-5 (claims t) (emit-id-at t) emit-id.Post
-returns-5 t c = wrote-by (wrote-step ▸ function-id-open _ _ _ _ _ _ (c .before .before .before .before .before .before .before .before .before .before .before .before .before .before .before .before .before .before .before .before .before .before .before .open-type .ensures) (search needs) _ (c .before .before .before .before .before .before .before .before .before .before .before .before .before .before .before .before .before .before .before .before .q .given .1) (writes-by (c .before .before .before .before .before .before .before .before .before .before .before .before .emit-result .ensures ▸▸ c .before .before .before .emit-id-end .ensures) (function-id-alone _ _ _ _ _ _ _ _ _ (c .before .before .before .before .before .before .before .before .before .before .before .before .before .before .before .before .before .t .given .1) (c .before .before .before .before .before .before .before .if3 .taken)))) (id-function _ _ _ _ _ _ _ (c .before .before .before .before .before .before .before .before .before .before .before .before .before .before .before .before .before .before .before .before .before .before .before .before .before .before .before .before .before .before .before .before .before .before .before .id-at .ensures) (c .before .before .before .before .before .before .before .before .before .before .before .before .before .before .before .before .before .before .before .before .before .before .before .before .before .before .before .before .before .before .before .before .before .d .given .1) (omega (arith, c .before .before .before .before .before .before .before .before .before .before .before .before .before .before .before .before .before .before .before .before .before .before .before .before .before .before .before .before .before .before .before .if2 .left, c .before .before .before .before .before .before .before .before .before .before .before .before .before .before .before .before .before .before .before .before .before .before .before .before .before .before .before .before .before .before .before .before .before .before .before .before .before .before .before .before .before .before .pre)) (c .before .before .before .before .before .before .before .before .before .before .before .before .before .before .before .before .before .before .before .before .before .before .before .before .before .before .before .before .before .before .deeper .ensures) _ _ (c .before .before .before .before .before .before .before .before .before .before .before .before .before .before .before .before .before .before .before .before .before .before .before .before .before .before .before .before .d2 .given .1) refl)
+returns-5 t c = wrote-by (wrote-step ▸ function-id-open _ _ _ _ _ _ (c .before .before .before .before .before .before .before .before .before .before .before .before .before .before .before .before .before .before .before .before .before .before .before .open-type .ensures) (search needs) _ (c .before .before .before .before .before .before .before .before .before .before .before .before .before .before .before .before .before .before .before .before .q .given .1) (writes-by (c .before .before .before .before .before .before .before .before .before .before .before .before .emit-result .ensures ▸▸ c .before .before .before .emit-id-end .ensures) (function-id-alone _ _ _ _ _ _ _ _ _ (c .before .before .before .before .before .before .before .before .before .before .before .before .before .before .before .before .before .t .given .1) (c .before .before .before .before .before .before .before .if3 .taken)))) (id-function _ _ _ _ _ _ _ (c .before .before .before .before .before .before .before .before .before .before .before .before .before .before .before .before .before .before .before .before .before .before .before .before .before .before .before .before .before .before .before .before .before .before .id-at .ensures) (c .before .before .before .before .before .before .before .before .before .before .before .before .before .before .before .before .before .before .before .before .before .before .before .before .before .before .before .before .before .before .before .before .d .given .1) (omega (arith, c .before .before .before .before .before .before .before .before .before .before .before .before .before .before .before .before .before .before .before .before .before .before .before .before .before .before .before .before .before .before .if2 .left, c .before .before .before .before .before .before .before .before .before .before .before .before .before .before .before .before .before .before .before .before .before .before .before .before .before .before .before .before .before .before .before .before .before .before .before .before .before .before .before .before .before .before .pre)) (c .before .before .before .before .before .before .before .before .before .before .before .before .before .before .before .before .before .before .before .before .before .before .before .before .before .before .before .before .before .deeper .ensures) _ _ (c .before .before .before .before .before .before .before .before .before .before .before .before .before .before .before .before .before .before .before .before .before .before .before .before .before .before .before .d2 .given .1) refl)
 
 sub-emit-id : (t : ℕ) → lts.Need-sub-emit-id (claims t) (emit-id-at t) emit-id.Post
-sub-emit-id t c = omega (arith, c .before .before .before .before .before .before .before .before .before .before .before .before .before .before .before .before .before .before .before .before .before .before .before .before .before .if2 .left)
+sub-emit-id t c = omega (arith, c .before .before .before .before .before .before .before .before .before .before .before .before .before .before .before .before .before .before .before .before .before .before .before .before .if2 .left)
 
 emit-id-requires : (t : ℕ) → lts.Need-emit-id-requires (claims t) (emit-id-at t) emit-id.Post
-emit-id-requires t c κs = (omega (arith, c .before .before .before .before .before .before .before .before .before .before .before .before .before .before .before .before .before .before .before .before .before .before .before .before .before .if2 .left, c .before .before .before .before .before .before .before .before .before .before .before .before .before .before .before .before .before .before .before .before .before .before .before .before .before .before .before .before .before .before .before .before .before .before .before .before .pre), chained _ _ _ (c .before .before .before .before .before .before .before .before .before .before .before .before .before .before .before .before .before .before .before .before .before .before .before .before .deeper .ensures) (omega (arith, c .before .before .before .before .before .before .before .before .before .before .before .before .before .before .before .before .before .before .before .before .before .before .before .before .before .if2 .left, c .before .before .before .before .before .before .before .before .before .before .before .before .before .before .before .before .before .before .before .before .before .before .before .before .before .before .before .before .before .before .before .before .before .before .before .before .pre)))
+emit-id-requires t c κs = (omega (arith, c .before .before .before .before .before .before .before .before .before .before .before .before .before .before .before .before .before .before .before .before .before .before .before .before .if2 .left, c .before .before .before .before .before .before .before .before .before .before .before .before .before .before .before .before .before .before .before .before .before .before .before .before .before .before .before .before .before .before .before .before .before .before .before .before .pre), chained _ _ _ (c .before .before .before .before .before .before .before .before .before .before .before .before .before .before .before .before .before .before .before .before .before .before .before .deeper .ensures) (omega (arith, c .before .before .before .before .before .before .before .before .before .before .before .before .before .before .before .before .before .before .before .before .before .before .before .before .if2 .left, c .before .before .before .before .before .before .before .before .before .before .before .before .before .before .before .before .before .before .before .before .before .before .before .before .before .before .before .before .before .before .before .before .before .before .before .before .pre)))
 
 slice-aggregate-emit-id-end-3 : (t : ℕ) → lts.Need-slice-aggregate-emit-id-end-3 (claims t) (emit-id-at t) emit-id.Post
 slice-aggregate-emit-id-end-3 t c = search needs
@@ -115,10 +115,10 @@ emit-mark-requires : (t : ℕ) → lts.Need-emit-mark-requires (claims t) (emit-
 emit-mark-requires t c κs = search needs
 
 returns-6 : (t : ℕ) → lts.Need-returns-6 (claims t) (emit-id-at t) emit-id.Post
-returns-6 t c = wrote-by (wrote-step ▸ function-id-open _ _ _ _ _ _ (c .before .before .before .before .before .before .before .before .before .before .before .before .before .before .before .before .before .before .before .before .before .before .before .before .before .before .before .open-type .ensures) (search needs) _ (c .before .before .before .before .before .before .before .before .before .before .before .before .before .before .before .before .before .before .before .before .before .before .before .before .q .given .1) (writes-by (c .before .before .before .before .before .before .before .before .before .before .before .before .before .before .before .before .emit-result .ensures ▸▸ plain (c .before .before .before .before .before .before .before .before .before .emit-id .ensures) ▸▸ c .before .before .before .emit-id-end2 .ensures) (function-id-scoped _ _ _ _ _ _ _ _ _ (c .before .before .before .before .before .before .before .before .before .before .before .before .before .before .before .before .before .before .before .before .before .t .given .1) (c .before .before .before .before .before .before .before .before .before .before .before .if3 .left)))) (id-function _ _ _ _ _ _ _ (c .before .before .before .before .before .before .before .before .before .before .before .before .before .before .before .before .before .before .before .before .before .before .before .before .before .before .before .before .before .before .before .before .before .before .before .before .before .before .before .id-at .ensures) (c .before .before .before .before .before .before .before .before .before .before .before .before .before .before .before .before .before .before .before .before .before .before .before .before .before .before .before .before .before .before .before .before .before .before .before .before .before .d .given .1) (omega (arith, c .before .before .before .before .before .before .before .before .before .before .before .before .before .before .before .before .before .before .before .before .before .before .before .before .before .before .before .before .before .before .before .before .before .before .before .if2 .left, c .before .before .before .before .before .before .before .before .before .before .before .before .before .before .before .before .before .before .before .before .before .before .before .before .before .before .before .before .before .before .before .before .before .before .before .before .before .before .before .before .before .before .before .before .before .before .pre)) (c .before .before .before .before .before .before .before .before .before .before .before .before .before .before .before .before .before .before .before .before .before .before .before .before .before .before .before .before .before .before .before .before .before .before .deeper .ensures) _ _ (c .before .before .before .before .before .before .before .before .before .before .before .before .before .before .before .before .before .before .before .before .before .before .before .before .before .before .before .before .before .before .before .before .d2 .given .1) refl)
+returns-6 t c = wrote-by (wrote-step ▸ function-id-open _ _ _ _ _ _ (c .before .before .before .before .before .before .before .before .before .before .before .before .before .before .before .before .before .before .before .before .before .before .before .before .before .before .before .open-type .ensures) (search needs) _ (c .before .before .before .before .before .before .before .before .before .before .before .before .before .before .before .before .before .before .before .before .before .before .before .before .q .given .1) (writes-by (c .before .before .before .before .before .before .before .before .before .before .before .before .before .before .before .before .emit-result .ensures ▸▸ plain (c .before .before .before .before .before .before .before .before .before .emit-id .ensures) ▸▸ c .before .before .before .emit-id-end2 .ensures) (function-id-scoped _ _ _ _ _ _ _ _ _ (c .before .before .before .before .before .before .before .before .before .before .before .before .before .before .before .before .before .before .before .before .before .t .given .1) (c .before .before .before .before .before .before .before .before .before .before .before .if3 .left)))) (id-function _ _ _ _ _ _ _ (c .before .before .before .before .before .before .before .before .before .before .before .before .before .before .before .before .before .before .before .before .before .before .before .before .before .before .before .before .before .before .before .before .before .before .before .before .before .before .id-at .ensures) (c .before .before .before .before .before .before .before .before .before .before .before .before .before .before .before .before .before .before .before .before .before .before .before .before .before .before .before .before .before .before .before .before .before .before .before .before .d .given .1) (omega (arith, c .before .before .before .before .before .before .before .before .before .before .before .before .before .before .before .before .before .before .before .before .before .before .before .before .before .before .before .before .before .before .before .before .before .before .if2 .left, c .before .before .before .before .before .before .before .before .before .before .before .before .before .before .before .before .before .before .before .before .before .before .before .before .before .before .before .before .before .before .before .before .before .before .before .before .before .before .before .before .before .before .before .before .before .before .pre)) (c .before .before .before .before .before .before .before .before .before .before .before .before .before .before .before .before .before .before .before .before .before .before .before .before .before .before .before .before .before .before .before .before .before .deeper .ensures) _ _ (c .before .before .before .before .before .before .before .before .before .before .before .before .before .before .before .before .before .before .before .before .before .before .before .before .before .before .before .before .before .before .before .d2 .given .1) refl)
 
 returns-7 : (t : ℕ) → lts.Need-returns-7 (claims t) (emit-id-at t) emit-id.Post
-returns-7 t c = wrote-by (wrote-step ▸ function-id-stopped _ _ _ _ _ _ (c .before .before .before .before .open-type .ensures) (search needs) _ (c .before .q2 .given .1)) (id-function _ _ _ _ _ _ _ (c .before .before .before .before .before .before .before .before .before .before .before .before .before .before .before .before .id-at .ensures) (c .before .before .before .before .before .before .before .before .before .before .before .before .before .before .d .given .1) (omega (arith, c .before .before .before .before .before .before .before .before .before .before .before .before .if2 .left, c .before .before .before .before .before .before .before .before .before .before .before .before .before .before .before .before .before .before .before .before .before .before .before .pre)) (c .before .before .before .before .before .before .before .before .before .before .before .deeper .ensures) _ _ (c .before .before .before .before .before .before .before .before .before .d2 .given .1) refl)
+returns-7 t c = wrote-by (wrote-step ▸ function-id-stopped _ _ _ _ _ _ (c .before .before .before .before .open-type .ensures) (search needs) _ (c .before .q2 .given .1)) (id-function _ _ _ _ _ _ _ (c .before .before .before .before .before .before .before .before .before .before .before .before .before .before .before .id-at .ensures) (c .before .before .before .before .before .before .before .before .before .before .before .before .before .d .given .1) (omega (arith, c .before .before .before .before .before .before .before .before .before .before .before .if2 .left, c .before .before .before .before .before .before .before .before .before .before .before .before .before .before .before .before .before .before .before .before .before .before .before .pre)) (c .before .before .before .before .before .before .before .before .before .before .deeper .ensures) _ _ (c .before .before .before .before .before .before .before .before .d2 .given .1) refl)
 
 returns-8 : (t : ℕ) → lts.Need-returns-8 (claims t) (emit-id-at t) emit-id.Post
 returns-8 t c = wrote-by (wrote-step ▸ c .before .before .emit-mark .ensures) (id-bad _ _ _ _ _ _ (c .before .before .before .before .before .before .before .id-at .ensures) _ (c .before .before .before .before .before .f .given .1))
