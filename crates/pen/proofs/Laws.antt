@@ -2,16 +2,16 @@
 use Prim.Native.Nat.{ℕ, zero, suc, _+_, _-_, _<_, _≤_}
 use mathlib.Core.Logic.{_⊎_, inl, inr}
 use mathlib.Core.Path.{_≡_, refl, ap, sym, _∙_, subst}
-use mathlib.Core.List.{List, [], _∷_, _++_}
+use mathlib.Core.List.{List, [], _∷_, _++_, append-assoc}
 use mathlib.Core.Bool.{Bool, true, false}
 use lib.ListN.{length, set, take, drop, getD, length-set}
 use lib.Dec.{eqb, leb, ltb}
-use lib.Seq.{take-suc, take-all, sets, sets-eq}
+use lib.Seq.{take-suc, take-suc-set, take-all, drop-drop, sets, sets-eq}
 use native.Mathlib.Decide.{decLt}
 use native.Mathlib.Numerals.{add-one}
 use native.Mathlib.Nat.{add-zero, zero-add, suc-add}
 use native.Mathlib.Omega.{arith}
-use borrow.Author.Tests.{ne-eqb, lt-ltb, le-ltb, lt-leb, le-leb}
+use borrow.Author.Tests.{ne-eqb, lt-ltb, le-ltb, lt-leb, le-leb, leb-true}
 use Rattle.wire.specs.Field.{pick}
 use Rattle.streams.specs.declared.refusal.Refusal.{Refusal}
 use Rattle.streams.specs.declared.refusal.Refusal.the-variants.{CircularTypeDefinition, TooManyOpen, ChainTooLong, NoRoom}
@@ -535,6 +535,51 @@ ink-over (b ∷ bs) buf at l o lim h k = by (decLt at lim) (λ d. ink-over bs (s
         → ink (put (page buf (record { at = at; last = l; opened = o; limit = lim; stop = No })) b) bs .pen .stop ≡ Refused NoRoom
     by (yes d) rest = rw (put-fits buf (record { at = at; last = l; opened = o; limit = lim; stop = No }) b refl d) (rest d)
     by (no d) rest = rw (put-full buf (record { at = at; last = l; opened = o; limit = lim; stop = No }) b refl (omega arith), ink-halted bs (page buf (gone lim NoRoom)) refl)
+
+-- A run of bytes that is copied at once: a turn of the copying, and what is copied when all of it is.
+pub copy-turn : (d s : List ℕ) (i : ℕ) → length d ≡ length s → i < length s → take i d ≡ take i s → take (i + 1) (set d i (getD s i 0)) ≡ take (i + 1) s
+copy-turn d s i l h e = rw (add-one, take-suc-set d i (getD s i 0) (omega arith), take-suc s i 0 h, e)
+
+pub copy-all : (d s : List ℕ) (i : ℕ) → length d ≡ length s → length s ≤ i → take i d ≡ take i s → d ≡ s
+copy-all d s i l h e = sym (take-all i d (omega arith)) ∙ e ∙ take-all i s h
+
+-- What it says that a run of n bytes has room.
+pub record Room (p : Pen) (len n : ℕ) : Type 0 where
+  pub goes : p .stop ≡ No
+  pub fits : p .at + n ≤ p .limit
+  pub within : p .limit ≤ len
+
+pub room-tells : (p : Pen) (len n r : ℕ) → r ≡ unlessStopped (p .stop) (pick (leb (p .limit) len) (p .limit - p .at) 0) 0 → 0 < n → n ≤ r → Room p len n
+room-tells p len n r e z h = by (p .stop) refl (leb (p .limit) len) refl (rw e at h)
+  where
+    by : (x : Stop) → p .stop ≡ x → (b : Bool) → leb (p .limit) len ≡ b → n ≤ unlessStopped x (pick b (p .limit - p .at) 0) 0 → Room p len n
+    by No s true l k = record { goes = s; fits = omega arith; within = leb-true _ _ l }
+    by No s false l k = absurd (omega arith)
+    by (Missing i) s b l k = absurd (omega arith)
+    by (Refused f) s b l k = absurd (omega arith)
+
+last-at : (b : ℕ) (bs : List ℕ) (i : ℕ) → length bs ≡ suc i → last b bs ≡ getD bs i 0
+unfolding last
+last-at b [] i e = absurd (omega arith)
+last-at b (c ∷ []) zero e = refl
+last-at b (c ∷ []) (suc i) e = absurd (omega arith)
+last-at b (c ∷ d ∷ ds) zero e = absurd (omega arith)
+last-at b (c ∷ d ∷ ds) (suc i) e = last-at c (d ∷ ds) i (omega arith)
+
+-- A run that was copied to the pen's place is its text.
+module _ (buf ys s : List ℕ) (p : Pen) (k : ℕ) where
+  pub wrote-run : Room p (length buf) (length s) → 0 < length s → k ≡ length s → ys ≡ s
+      → Wrote (page buf p) (writing s) (page (take (p .at) buf ++ (ys ++ drop k (drop (p .at) buf))) (record { at = p .at + length s; last = getD s (length s - 1) 0; opened = p .opened; limit = p .limit; stop = No }))
+  wrote-run m z e f = record { is = ap (λ (b : List ℕ). page b q) whole ∙ sym inked }
+    where
+      q : Pen
+      q = record { at = p .at + length s; last = getD s (length s - 1) 0; opened = p .opened; limit = p .limit; stop = No }
+
+      whole : take (p .at) buf ++ (ys ++ drop k (drop (p .at) buf)) ≡ sets buf (p .at) s
+      whole = rw (e, f, drop-drop, ← append-assoc) (sym (sets-eq s buf (p .at) (omega (arith, m .fits, m .within))))
+
+      inked : pageAfter (page buf p) (writing s) ≡ page (sets buf (p .at) s) q
+      inked = run-say (page buf p) s ∙ ap (λ x. ink (page buf (record { at = p .at; last = p .last; opened = p .opened; limit = p .limit; stop = x })) s) (m .goes) ∙ ink-fits s buf (p .at) (p .last) (p .opened) (p .limit) (m .fits) ∙ rw (last-at (p .last) s (length s - 1) (omega arith))
 
 -- what a text that fits leaves
 pub record Ran (buf : List ℕ) (limit : ℕ) (bs : List ℕ) (c : ℕ) (b : List ℕ) (q : Pen) : Type 0 where

@@ -2,9 +2,12 @@
 // Where the buffer is shorter than the pen's limit the bytes past its end are counted only.
 ghost use mathlib.Core.Path.{_≡_};
 ghost use mathlib.Core.List.{[]};
-ghost use lib.ListN.{set};
+ghost use Prim.Native.Nat.{_-_};
+ghost use lib.Dec.{leb};
+ghost use lib.ListN.{length, set};
+ghost use Rattle.wire.specs.Field.{pick};
 ghost use Rattle.interpreter.specs.Trace.{tr, refused, halted, long, count};
-ghost use Rattle.pen.specs.Page.{page, put, Wrote, lastSince, resumed, refusedPen, missedPen, unreadPen, counted, writing, idle, unreadTrace};
+ghost use Rattle.pen.specs.Page.{page, put, unlessStopped, Wrote, lastSince, resumed, refusedPen, missedPen, unreadPen, counted, writing, idle, unreadTrace};
 use streams::refusal::Refusal;
 
 pub enum Stop {
@@ -69,8 +72,8 @@ pub fn byte(out: &mut [u8], p: Pen, b: u8) -> Pen
     }
 }
 
-// The bytes of s.
-pub fn text(out: &mut [u8], p: Pen, s: &[u8]) -> Pen
+// The bytes of s, one by one.
+fn text_by_byte(out: &mut [u8], p: Pen, s: &[u8]) -> Pen
     ensures { λ r. ⌜ Wrote (page (now (out .entry)) p) (writing (now (s .entry))) (page (now (out .exit)) r) ⌝ }
 {
     let mut q = p;
@@ -80,6 +83,59 @@ pub fn text(out: &mut [u8], p: Pen, s: &[u8]) -> Pen
         i += 1;
     }
     q
+}
+
+fn copy(to: &mut [u8], s: &[u8])
+    requires { ⌜ length (now to) ≡ length (now s) ⌝ }
+    ensures { λ _. ⌜ now (to .exit) ≡ now (s .entry) ⌝ }
+{
+    let n = to.len();
+    let mut i = 0;
+    while i < n {
+        to[i] = s[i];
+        i += 1;
+    }
+}
+
+// How many bytes there is room for at once: none where the pen has stopped or its limit is past the buffer.
+fn room(p: Pen, len: usize) -> usize
+    ensures { λ r. ⌜ r ≡ unlessStopped (p .stop) (pick (leb (p .limit) len) (p .limit - p .at) 0) 0 ⌝ }
+{
+    let stop = p.stop;
+    match stop {
+        Stop::No => {
+            let at = p.at;
+            let limit = p.limit;
+            if len < limit {
+                return 0;
+            }
+            if limit <= at { 0 } else { limit - at }
+        }
+        Stop::Missing(_) => 0,
+        Stop::Refused(_) => 0,
+    }
+}
+
+// The bytes of s, at once where there is room for all of them.
+pub fn text(out: &mut [u8], p: Pen, s: &[u8]) -> Pen
+    ensures { λ r. ⌜ Wrote (page (now (out .entry)) p) (writing (now (s .entry))) (page (now (out .exit)) r) ⌝ }
+{
+    let n = s.len();
+    if 0 < n {
+        if n <= room(p, out.len()) {
+            let at = p.at;
+            let end = at + n;
+            copy(&mut out[at..end], s);
+            return Pen {
+                at: end,
+                last: s[n - 1],
+                opened: p.opened,
+                limit: p.limit,
+                stop: Stop::No,
+            };
+        }
+    }
+    text_by_byte(out, p, s)
 }
 
 // A pen that has not stopped is refused.

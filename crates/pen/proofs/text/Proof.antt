@@ -1,56 +1,66 @@
--- The invariant: the first i bytes are on the page. The measure is what is left of them.
+-- A run that has room is copied to the pen's place; any other goes byte by byte.
 -- Assumes nothing.
-use Prim.Native.Nat.{_≤_, _-_}
-use mathlib.Core.Path.{_≡_, sym}
-use lib.ListN.{length, take}
-use Rattle.pen.specs.Page.{page, ink}
-use Rattle.pen.proofs.Laws.{ink-nil, ink-turn, ink-all, run-say}
 use native.Mathlib.Omega.{arith}
+use Prim.Native.Nat.{_+_, _-_}
+use lib.ListN.{length, length-take, length-drop}
 use borrow.Author.Needs.{needs}
+use Rattle.pen.proofs.Laws.{room-tells, wrote-run}
 use Rattle.pen.proofs.text.Statement.{statement}
 use Rattle.pen.proofs.text.Tie as tie
 
-abbrev Inv-loop : tie.InvT-loop
-Inv-loop out₀ s q₀ i₀ out q i = (i ≤ length s) × (length out ≡ length out₀) × (page out q ≡ ink (page out₀ q₀) (take i s))
+room-requires : tie.Need-room-requires
+room-requires c κs = search needs
 
-abbrev μ-loop : tie.MeasureT-loop
-μ-loop out₀ s q₀ i₀ out q i = length s - i
+add-end : tie.Need-add-end
+add-end c = omega (arith, room-tells (c .before .before .before .before .before .args .p) (length (c .before .before .before .before .before .args .out .now)) (length (c .before .before .before .before .before .args .s .now)) (c .before .room .result) (c .before .room .ensures) (c .before .before .if1 .taken) (c .if2 .taken) .fits)
 
-loop-holds : tie.Need-loop-holds Inv-loop μ-loop
-loop-holds c = (omega arith, cc, sym (ink-nil _))
+sub-copy : tie.Need-sub-copy
+sub-copy c = search needs
 
-shared-slice-read-byte : tie.Need-shared-slice-read-byte Inv-loop μ-loop
-shared-slice-read-byte c = omega arith
+part-copy-start : tie.Need-part-copy-start
+part-copy-start c = search needs
 
-byte-requires : tie.Need-byte-requires Inv-loop μ-loop
-byte-requires c κs = search needs
+part-copy-end : tie.Need-part-copy-end
+part-copy-end c = omega (arith, room-tells (c .before .before .before .before .before .args .p) (length (c .before .before .before .before .before .args .out .now)) (length (c .before .before .before .before .before .args .s .now)) (c .before .room .result) (c .before .room .ensures) (c .before .before .if1 .taken) (c .if2 .taken) .fits, room-tells (c .before .before .before .before .before .args .p) (length (c .before .before .before .before .before .args .out .now)) (length (c .before .before .before .before .before .args .s .now)) (c .before .room .result) (c .before .room .ensures) (c .before .before .if1 .taken) (c .if2 .taken) .within)
 
-add-i : tie.Need-add-i Inv-loop μ-loop
-add-i c = omega arith
+copy-requires : tie.Need-copy-requires
+copy-requires c κs = simp (length-take, length-drop) (omega (arith, room-tells (c .before .before .before .before .before .before .args .p) (length (c .before .before .before .before .before .before .args .out .now)) (length (c .before .before .before .before .before .before .args .s .now)) (c .before .before .room .result) (c .before .before .room .ensures) (c .before .before .before .if1 .taken) (c .before .if2 .taken) .fits, room-tells (c .before .before .before .before .before .before .args .p) (length (c .before .before .before .before .before .before .args .out .now)) (length (c .before .before .before .before .before .before .args .s .now)) (c .before .before .room .result) (c .before .before .room .ensures) (c .before .before .before .if1 .taken) (c .before .if2 .taken) .within))
 
-loop-less : tie.Need-loop-less Inv-loop μ-loop
-loop-less c = omega arith
+sub-t13 : tie.Need-sub-t13
+sub-t13 c = search needs
 
-loop-again : tie.Need-loop-again Inv-loop μ-loop
-loop-again c = (omega arith, cc, ink-turn _ _ _ (c .before .before .before .before .before .before .before .before .before .args .s .now) (c .before .before .before .before .before .before .loop .i) (c .before .before .before .before .before .before .loop .inv .2) (c .before .before .byte .ensures) (omega arith))
+shared-slice-read-t17 : tie.Need-shared-slice-read-t17
+shared-slice-read-t17 c = search needs
 
-same-length : tie.Need-same-length Inv-loop μ-loop
-same-length c = c .before .loop .inv .1
+returns : tie.Need-returns
+returns c = wrote-run (c .before .before .before .before .before .before .before .before .before .before .args .out .now) (c .before .before .before .copy .last .0) (c .before .before .before .before .before .before .before .before .before .before .args .s .now) (c .before .before .before .before .before .before .before .before .before .before .args .p) (c .before .before .before .before .before .before .before .before .before .before .args .p .at + length (c .before .before .before .before .before .before .before .before .before .before .args .s .now) - c .before .before .before .before .before .before .before .before .before .before .args .p .at) (room-tells (c .before .before .before .before .before .before .before .before .before .before .args .p) (length (c .before .before .before .before .before .before .before .before .before .before .args .out .now)) (length (c .before .before .before .before .before .before .before .before .before .before .args .s .now)) (c .before .before .before .before .before .before .room .result) (c .before .before .before .before .before .before .room .ensures) (c .before .before .before .before .before .before .before .if1 .taken) (c .before .before .before .before .before .if2 .taken)) (c .before .before .before .before .before .before .before .if1 .taken) (omega arith) (c .before .before .before .copy .ensures)
 
-returns : tie.Need-returns Inv-loop μ-loop
-returns c = record { is = rw run-say (ink-all _ _ (c .before .before .before .before .args .s .now) (c .before .loop .i) (c .before .loop .inv .2) (omega arith)) }
+text-by-byte-requires : tie.Need-text-by-byte-requires
+text-by-byte-requires c κs = search needs
+
+returns-2 : tie.Need-returns-2
+returns-2 c = search needs
+
+same-length : tie.Need-same-length
+same-length c = search needs
+
+same-length-2 : tie.Need-same-length-2
+same-length-2 c = search needs
 
 pub text-spec : {M : Type 1} → statement M
 text-spec =
     tie.close
     (tie.spec
-    Inv-loop
-    μ-loop
-    loop-holds
-    shared-slice-read-byte
-    byte-requires
-    add-i
-    loop-less
-    loop-again
+    room-requires
+    add-end
+    sub-copy
+    part-copy-start
+    part-copy-end
+    copy-requires
+    sub-t13
+    shared-slice-read-t17
     same-length
-    returns)
+    returns
+    text-by-byte-requires
+    same-length-2
+    returns-2)
