@@ -3,12 +3,12 @@ use Prim.Native.Nat.{ℕ, zero, suc, _+_, _*_, _-_, _^_, _≤_, _<_}
 use native.Mathlib.Nat.{le-refl, add-zero, zero-add, add-suc, suc-add, add-assoc, mul-add, mul-assoc, one-mul, pow-succ', pow-zero}
 use native.Mathlib.Omega.{arith}
 use mathlib.Core.Path.{_≡_, refl, ap, sym, _∙_}
-use mathlib.Core.Bool.{Bool, true, false}
+use mathlib.Core.Bool.{Bool, true, false, _||_}
 use mathlib.Core.List.{List}
 use lib.ListN.{length, getD}
 use lib.Dec.{leb, ltb, eqb}
-use borrow.Author.Tests.{le-leb, lt-leb, leb-true, ltb-true, ne-eqb}
-use Rattle.wire.specs.Name.{zeroFrom, nameEnd, name, nameAnswer}
+use borrow.Author.Tests.{le-leb, lt-leb, leb-true, ltb-true, eqb-false, ne-eqb}
+use Rattle.wire.specs.Name.{zeroFrom, zeroAmong, nameEnd, name, nameAnswer}
 use Rattle.wire.specs.Leaf.{payload, leaf}
 use Rattle.wire.specs.declared.name.Name.{Name}
 use Rattle.wire.specs.declared.name.NameRead.{NameRead}
@@ -145,6 +145,19 @@ module _ (s : List ℕ) (at : ℕ) where
   zero-none h =
       let k : length s - at ≡ 0 = omega arith in
       rw k
+
+-- Where no zero stands among so many bytes it is looked for behind them.
+neither : (a b : Bool) → (a || b) ≡ false → (a ≡ false) × (b ≡ false)
+neither true b e = absurd (let z : _≡_ {A = ℕ} 0 1 = cc in omega arith)
+neither false b e = (refl, e)
+
+pub zero-behind : (n : ℕ) (s : List ℕ) (at : ℕ) → at + n ≤ length s → zeroAmong n s at ≡ false → nameEnd s at ≡ nameEnd s (at + n)
+unfolding zeroAmong
+zero-behind zero s at h e = rw add-zero
+zero-behind (suc n) s at h e =
+    let k = neither (zeroAmong n s at) (eqb (getD s (at + n) 0) 0) e in
+    let m : at + n + 1 ≡ at + suc n = omega arith in
+    zero-behind n s at (omega arith) (k .0) ∙ zero-later s (at + n) (omega arith) (eqb-false _ _ (k .1)) ∙ rw m
 
 -- What a name that was read says: it starts where it was asked for and ends inside, and whatever goes by it goes on with its length or stops.
 abbrev byName : {A : Type 0} → NameRead → (ℕ → A) → A → A

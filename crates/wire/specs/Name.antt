@@ -1,5 +1,6 @@
 -- Zero-ended names, as places.
 use Prim.Native.Nat.{ℕ, zero, suc, _+_, _-_}
+use mathlib.Core.Bool.{Bool, false, _||_}
 use mathlib.Core.List.{List}
 use lib.ListN.{length, getD}
 use lib.Dec.{eqb, ltb}
@@ -12,6 +13,11 @@ use Rattle.wire.specs.declared.name.NameRead.the-variants.{Ended, Unende
 unfoldable pub zeroFrom : ℕ → List ℕ → ℕ → ℕ
 zeroFrom zero s at = at
 zeroFrom (suc n) s at = pick (eqb (getD s at 0) 0) at (zeroFrom n s (at + 1))
+
+-- Whether a zero stands among so many bytes from a place on.
+unfoldable pub zeroAmong : ℕ → List ℕ → ℕ → Bool
+zeroAmong zero s at = false
+zeroAmong (suc n) s at = zeroAmong n s at || eqb (getD s (at + n) 0) 0
 
 -- The place where the name at a place ends: that of its closing zero, or the end where it has none.
 unfoldable pub nameEnd : List ℕ → ℕ → ℕ

@@ -25,7 +25,7 @@ pub enum Field64 {
 }
 
 // How many bytes stand from a place to the end.
-fn left(len: usize, at: usize) -> usize
+pub fn left(len: usize, at: usize) -> usize
     ensures { λ r. ⌜ r ≡ len - at ⌝ }
 {
     if at < len { len - at } else { 0 }

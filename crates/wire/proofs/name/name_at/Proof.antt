@@ -1,12 +1,13 @@
 -- The invariant: looking on from here finds the end of the name that was asked for. The measure is what is left of the slice.
 -- Assumes nothing.
-use Prim.Native.Nat.{ℕ, _≤_, _-_}
-use mathlib.Core.Path.{_≡_, refl, _∙_}
+use Prim.Native.Nat.{_≤_, _-_}
+use mathlib.Core.Path.{_≡_, _∙_}
 use lib.ListN.{length}
 use borrow.Author.Tests.{lt-ltb, le-ltb}
 use Rattle.wire.specs.Name.{name, nameEnd}
 use Rattle.wire.proofs.Laws.{zero-here, zero-later, zero-none}
 use native.Mathlib.Omega.{arith}
+use borrow.Author.Needs.{needs}
 use Rattle.wire.proofs.name.name_at.Statement.{statement}
 use Rattle.wire.proofs.name.name_at.Tie as tie
 
@@ -16,8 +17,11 @@ Inv-loop s at end₀ end = (at ≤ end) × (nameEnd s at ≡ nameEnd s end)
 abbrev μ-loop : tie.MeasureT-loop
 μ-loop s at end₀ end = length s - end
 
+skip-eights-requires : tie.Need-skip-eights-requires Inv-loop μ-loop
+skip-eights-requires c κs = search needs
+
 loop-holds : tie.Need-loop-holds Inv-loop μ-loop
-loop-holds c = (omega arith, refl)
+loop-holds c = c .skip-eights .ensures
 
 shared-slice-read-if1 : tie.Need-shared-slice-read-if1 Inv-loop μ-loop
 shared-slice-read-if1 c = omega arith
@@ -48,6 +52,7 @@ name-at-spec =
     (tie.spec
     Inv-loop
     μ-loop
+    skip-eights-requires
     loop-holds
     shared-slice-read-if1
     sub-t8
