@@ -27,6 +27,11 @@ use context::flags::Call;
 use context::levels::Levels;
 use pen::Pen;
 
+// The signs of a pointer and of a reference, as the pen keeps its last byte.
+const STAR: u64 = b'*' as u64;
+
+const AMPERSAND: u64 = b'&' as u64;
+
 fn byte_or_zero(s: &[u8], at: usize) -> u8
     ensures { λ r. ⌜ r ≡ getD (now (s .entry)) at 0 ⌝ }
 {
@@ -142,8 +147,8 @@ pub fn emit_attributes_since(out: &mut [u8], p: Pen, call: Call, o: Levels, star
     ensures { λ r. ⌜ Wrote (page (now (out .entry)) p) (writing (levels (settingsOf call) true (isSign (lastSince p start)) (levelsOf o))) (page (now (out .exit)) r) ⌝ }
 {
     let last = pen::last_since(p, start);
-    if last == b'*' {
+    if last == STAR {
         return emit_attributes(out, p, call, o, true, true);
     }
-    emit_attributes(out, p, call, o, true, last == b'&')
+    emit_attributes(out, p, call, o, true, last == AMPERSAND)
 }

@@ -18,7 +18,8 @@ pub enum Stop {
 
 pub struct Pen {
     pub at: usize,
-    pub last: u8,
+    // A byte in the width of its neighbours: a struct without gaps is copied by whole words.
+    pub last: u64,
     pub opened: u64,
     pub limit: usize,
     pub stop: Stop,
@@ -45,6 +46,12 @@ fn gone(limit: usize, f: Refusal) -> Pen
     }
 }
 
+fn wide(b: u8) -> u64
+    ensures { λ r. ⌜ r ≡ b ⌝ }
+{
+    b as u64
+}
+
 // One byte more; 15 where there is no room for it.
 pub fn byte(out: &mut [u8], p: Pen, b: u8) -> Pen
     ensures { λ r. ⌜ page (now (out .exit)) r ≡ put (page (now (out .entry)) p) b ⌝ }
@@ -58,7 +65,7 @@ pub fn byte(out: &mut [u8], p: Pen, b: u8) -> Pen
                 store(out, at, b);
                 Pen {
                     at: at + 1,
-                    last: b,
+                    last: wide(b),
                     opened: p.opened,
                     limit,
                     stop: Stop::No,
@@ -128,7 +135,7 @@ pub fn text(out: &mut [u8], p: Pen, s: &[u8]) -> Pen
             copy(&mut out[at..end], s);
             return Pen {
                 at: end,
-                last: s[n - 1],
+                last: wide(s[n - 1]),
                 opened: p.opened,
                 limit: p.limit,
                 stop: Stop::No,
@@ -225,7 +232,7 @@ pub fn tick(p: Pen) -> Pen
 }
 
 // The last byte written since a place; 0 where there is none.
-pub fn last_since(p: Pen, start: usize) -> u8
+pub fn last_since(p: Pen, start: usize) -> u64
     ensures { λ r. ⌜ r ≡ lastSince p start ⌝ }
 {
     let at = p.at;

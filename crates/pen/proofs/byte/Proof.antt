@@ -16,6 +16,9 @@ store-requires c κs = search needs
 add-t13 : tie.Need-add-t13
 add-t13 c = search needs
 
+wide-requires : tie.Need-wide-requires
+wide-requires c κs = search needs
+
 gone-requires : tie.Need-gone-requires
 gone-requires c κs = search needs
 
@@ -29,7 +32,7 @@ same-length : tie.Need-same-length
 same-length c = search needs
 
 returns : tie.Need-returns
-returns c = put-stored (c .before .before .before .before .before .before .before .before .args .out .now) _ (c .before .before .before .before .before .before .before .before .args .p) (c .before .before .before .before .before .before .before .before .args .b) (c .before .before .store .ensures) (cc) (search needs)
+returns c = rw (c .wide .ensures) (put-stored (c .before .before .before .before .before .before .before .before .before .args .out .now) _ (c .before .before .before .before .before .before .before .before .before .args .p) (c .before .before .before .before .before .before .before .before .before .args .b) (c .before .before .before .store .ensures) (cc) (search needs))
 
 returns-2 : tie.Need-returns-2
 returns-2 c = ap (page _) (c .gone .ensures) ∙ sym (put-full _ _ _ (cc) (c .before .if1 .left))
@@ -47,6 +50,7 @@ byte-spec =
     enum-told
     store-requires
     add-t13
+    wide-requires
     gone-requires
     enum-told-2
     enum-told-3

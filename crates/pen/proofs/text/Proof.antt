@@ -12,7 +12,7 @@ room-requires : tie.Need-room-requires
 room-requires c κs = search needs
 
 add-end : tie.Need-add-end
-add-end c = omega (arith, room-tells (c .before .before .before .before .before .args .p) (length (c .before .before .before .before .before .args .out .now)) (length (c .before .before .before .before .before .args .s .now)) (c .before .room .result) (c .before .room .ensures) (c .before .before .if1 .taken) (c .if2 .taken) .fits)
+add-end c = let m = room-tells (c .before .before .before .before .before .args .p) (length (c .before .before .before .before .before .args .out .now)) (length (c .before .before .before .before .before .args .s .now)) (c .before .room .result) (c .before .room .ensures) (c .before .before .if1 .taken) (c .if2 .taken) in omega arith
 
 sub-copy : tie.Need-sub-copy
 sub-copy c = search needs
@@ -21,19 +21,22 @@ part-copy-start : tie.Need-part-copy-start
 part-copy-start c = search needs
 
 part-copy-end : tie.Need-part-copy-end
-part-copy-end c = omega (arith, room-tells (c .before .before .before .before .before .args .p) (length (c .before .before .before .before .before .args .out .now)) (length (c .before .before .before .before .before .args .s .now)) (c .before .room .result) (c .before .room .ensures) (c .before .before .if1 .taken) (c .if2 .taken) .fits, room-tells (c .before .before .before .before .before .args .p) (length (c .before .before .before .before .before .args .out .now)) (length (c .before .before .before .before .before .args .s .now)) (c .before .room .result) (c .before .room .ensures) (c .before .before .if1 .taken) (c .if2 .taken) .within)
+part-copy-end c = let m = room-tells (c .before .before .before .before .before .args .p) (length (c .before .before .before .before .before .args .out .now)) (length (c .before .before .before .before .before .args .s .now)) (c .before .room .result) (c .before .room .ensures) (c .before .before .if1 .taken) (c .if2 .taken) in omega arith
 
 copy-requires : tie.Need-copy-requires
-copy-requires c κs = simp (length-take, length-drop) (omega (arith, room-tells (c .before .before .before .before .before .before .args .p) (length (c .before .before .before .before .before .before .args .out .now)) (length (c .before .before .before .before .before .before .args .s .now)) (c .before .before .room .result) (c .before .before .room .ensures) (c .before .before .before .if1 .taken) (c .before .if2 .taken) .fits, room-tells (c .before .before .before .before .before .before .args .p) (length (c .before .before .before .before .before .before .args .out .now)) (length (c .before .before .before .before .before .before .args .s .now)) (c .before .before .room .result) (c .before .before .room .ensures) (c .before .before .before .if1 .taken) (c .before .if2 .taken) .within))
+copy-requires c κs = simp (length-take, length-drop) (let m = room-tells (c .before .before .before .before .before .before .args .p) (length (c .before .before .before .before .before .before .args .out .now)) (length (c .before .before .before .before .before .before .args .s .now)) (c .before .before .room .result) (c .before .before .room .ensures) (c .before .before .before .if1 .taken) (c .before .if2 .taken) in omega arith)
 
-sub-t13 : tie.Need-sub-t13
-sub-t13 c = search needs
+sub-wide : tie.Need-sub-wide
+sub-wide c = search needs
 
-shared-slice-read-t17 : tie.Need-shared-slice-read-t17
-shared-slice-read-t17 c = search needs
+shared-slice-read-wide : tie.Need-shared-slice-read-wide
+shared-slice-read-wide c = search needs
+
+wide-requires : tie.Need-wide-requires
+wide-requires c κs = search needs
 
 returns : tie.Need-returns
-returns c = wrote-run (c .before .before .before .before .before .before .before .before .before .before .args .out .now) (c .before .before .before .copy .last .0) (c .before .before .before .before .before .before .before .before .before .before .args .s .now) (c .before .before .before .before .before .before .before .before .before .before .args .p) (c .before .before .before .before .before .before .before .before .before .before .args .p .at + length (c .before .before .before .before .before .before .before .before .before .before .args .s .now) - c .before .before .before .before .before .before .before .before .before .before .args .p .at) (room-tells (c .before .before .before .before .before .before .before .before .before .before .args .p) (length (c .before .before .before .before .before .before .before .before .before .before .args .out .now)) (length (c .before .before .before .before .before .before .before .before .before .before .args .s .now)) (c .before .before .before .before .before .before .room .result) (c .before .before .before .before .before .before .room .ensures) (c .before .before .before .before .before .before .before .if1 .taken) (c .before .before .before .before .before .if2 .taken)) (c .before .before .before .before .before .before .before .if1 .taken) (omega arith) (c .before .before .before .copy .ensures)
+returns c = rw (c .wide .ensures) (wrote-run (c .before .before .before .before .before .before .before .before .before .before .before .args .out .now) (c .before .before .before .before .copy .last .0) (c .before .before .before .before .before .before .before .before .before .before .before .args .s .now) (c .before .before .before .before .before .before .before .before .before .before .before .args .p) (c .before .before .before .before .before .before .before .before .before .before .before .args .p .at + length (c .before .before .before .before .before .before .before .before .before .before .before .args .s .now) - c .before .before .before .before .before .before .before .before .before .before .before .args .p .at) (room-tells (c .before .before .before .before .before .before .before .before .before .before .before .args .p) (length (c .before .before .before .before .before .before .before .before .before .before .before .args .out .now)) (length (c .before .before .before .before .before .before .before .before .before .before .before .args .s .now)) (c .before .before .before .before .before .before .before .room .result) (c .before .before .before .before .before .before .before .room .ensures) (c .before .before .before .before .before .before .before .before .if1 .taken) (c .before .before .before .before .before .before .if2 .taken)) (c .before .before .before .before .before .before .before .before .if1 .taken) (omega arith) (c .before .before .before .before .copy .ensures))
 
 text-by-byte-requires : tie.Need-text-by-byte-requires
 text-by-byte-requires c κs = search needs
@@ -57,8 +60,9 @@ text-spec =
     part-copy-start
     part-copy-end
     copy-requires
-    sub-t13
-    shared-slice-read-t17
+    sub-wide
+    shared-slice-read-wide
+    wide-requires
     same-length
     returns
     text-by-byte-requires
