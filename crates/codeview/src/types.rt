@@ -331,8 +331,7 @@ fn primitive_type(index: u32) -> TypeRead
     if 7 < indirection {
         return TypeRead::Refused(Refusal::Missing(index));
     }
-    let search = primitives::find_primitive(code);
-    if search.listed {
+    if primitives::is_listed(code) {
         return TypeRead::Good(TypeData::Primitive(PrimitiveType { code, indirection }));
     }
     TypeRead::Refused(Refusal::Missing(index))

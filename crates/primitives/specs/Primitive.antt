@@ -1,8 +1,8 @@
 -- The primitive types (document 01, "Streams and records"): the 43 kinds of cvinfo.h, with the names and byte sizes of 000.
-use Prim.Native.Nat.{ℕ, _-_}
+use Prim.Native.Nat.{ℕ, suc, _-_}
 use Prim.Native.String.{String}
 use mathlib.Core.Bool.{Bool, true, false}
-use mathlib.Core.List.{List, [], _∷_, _++_}
+use mathlib.Core.List.{List, [], _∷_, _++_, map}
 use lib.ListN.{length, replicate}
 use lib.Dec.{eqb}
 use Rattle.wire.specs.Field.{pick}
@@ -76,6 +76,14 @@ primitives =
 unfoldable pub firstOf : {A : Type 0} → ℕ → List PrimitiveKind → (PrimitiveKind → A) → A → A
 firstOf code [] found none = none
 firstOf code (k ∷ ks) found none = pick (eqb (k .code) code) (found k) (firstOf code ks found none)
+
+-- The codes of a table, and the place of the first that is a given one; where none is, how many there are.
+abbrev pub codesOf : List PrimitiveKind → List ℕ
+codesOf l = map (λ k. k .code) l
+
+unfoldable pub placeOf : ℕ → List ℕ → ℕ
+placeOf code [] = 0
+placeOf code (k ∷ ks) = pick (eqb k code) 0 (suc (placeOf code ks))
 
 -- What a search finds, as the code answers it.
 abbrev pub listed : PrimitiveKind → PrimitiveSearch

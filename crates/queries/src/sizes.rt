@@ -25,9 +25,7 @@ fn get_primitive_size(call: Call, p: PrimitiveType) -> u64
     ensures { λ r. ⌜ r ≡ pick (eqb (p .indirection) 0) (primitiveSize (p .code)) (call .size) ⌝ }
 {
     if p.indirection == 0 {
-        let found = primitives::find_primitive(p.code);
-        let kind = found.kind;
-        return kind.size as u64;
+        return primitives::primitive_size(p.code) as u64;
     }
     call.size as u64
 }

@@ -1,20 +1,18 @@
--- The table of the code is that of the definition, entry for entry.
+-- The kind at the place of the code, and whether that is a place of the table.
 -- Assumes nothing.
-use mathlib.Core.Path.{refl}
-use Rattle.primitives.specs.Primitive.{primitives}
 use borrow.Author.Needs.{needs}
+use Rattle.primitives.proofs.Table.{found-at}
 use Rattle.primitives.proofs.find_primitive.Statement.{statement}
 use Rattle.primitives.proofs.find_primitive.Tie as tie
-use Rattle.primitives.proofs.find_primitive.Reads as reads
-use Rattle.primitives.proofs.find_primitive.Lts as lts
-use Rattle.primitives.proofs.search.Reads as search-reads
 
-search-requires : tie.Need-search-requires
-search-requires c κs = refl
+find-place-requires : tie.Need-find-place-requires
+find-place-requires c κs = search needs
+
+kind-at-requires : tie.Need-kind-at-requires
+kind-at-requires c κs = search needs
 
 returns : tie.Need-returns
-unfolding primitives
-returns c = c .search .ensures
+returns c = rw (c .kind-at .ensures, c .before .find-place .ensures) (found-at (c .before .before .args .code))
 
 pub find-primitive-spec : {M : Type 1} → statement M
-find-primitive-spec = tie.close (tie.spec search-requires returns)
+find-primitive-spec = tie.close (tie.spec find-place-requires kind-at-requires returns)

@@ -3,20 +3,18 @@
 use borrow.Author.Needs.{needs}
 use borrow.Author.Tests.{eq-eqb, ne-eqb}
 use Rattle.rules.specs.Text.{primitiveSize}
-use Rattle.leaf_writers.proofs.NamesLaws.{first-as}
-use Rattle.primitives.specs.Primitive.{primitives}
 use Rattle.queries.proofs.sizes.get_primitive_size.Statement.{statement}
 use Rattle.queries.proofs.sizes.get_primitive_size.Tie as tie
 
-find-primitive-requires : tie.Need-find-primitive-requires
-find-primitive-requires c κs = search needs
+primitive-size-requires : tie.Need-primitive-size-requires
+primitive-size-requires c κs = search needs
 
 cast-result : tie.Need-cast-result
 cast-result c = search needs
 
 returns : tie.Need-returns
 unfolding primitiveSize
-returns c = rw (eq-eqb _ _ (c .before .before .before .if1 .taken), c .before .before .find-primitive .ensures) (first-as (λ r. r .kind .size) _ primitives)
+returns c = rw (eq-eqb _ _ (c .before .if1 .taken), c .primitive-size .ensures)
 
 cast-result-2 : tie.Need-cast-result-2
 cast-result-2 c = search needs
@@ -26,4 +24,4 @@ returns-2 c = rw (ne-eqb _ _ (c .before .if1 .left))
 
 pub get-primitive-size-spec : {M : Type 1} → statement M
 get-primitive-size-spec =
-    tie.close (tie.spec find-primitive-requires cast-result returns cast-result-2 returns-2)
+    tie.close (tie.spec primitive-size-requires cast-result returns cast-result-2 returns-2)
