@@ -11,7 +11,7 @@ ghost use Rattle.pen.specs.Page.{page};
 ghost use Rattle.checked_calls.specs.Answers.{ofAnswer};
 ghost use Rattle.checked_calls.specs.Checks.{ofSizeAnswer};
 ghost use Rattle.sheet.specs.Line.{sizeLine, refusedLine};
-ghost use Rattle.sheet.specs.Sheet.{afterOf, behindOf, stepOf, answerLine, functionLine, lineOf, sheetFit};
+ghost use Rattle.sheet.specs.Sheet.{begin, afterOf, behindOf, stepOf, answerLine, functionLine, lineOf, sheetFit};
 ghost use Rattle.sheet.specs.Printed.{placedOn, putOf, shown, laidOut, Whole, SheetContinues, Countable};
 use crate::command::Command;
 use crate::command::command_at;
@@ -206,19 +206,19 @@ fn function_line(
     sheet: &[u8],
     t: StreamCheck,
     line: &mut [u8],
+    text: &mut [u8],
     s: State,
     index: u32,
 ) -> usize
-    requires { ⌜ (t ≡ checked Types (now types)) × ((4150 ≤ length (now line)) × Countable s) ⌝ }
+    requires { ⌜ (t ≡ checked Types (now types)) × ((4150 ≤ length (now line)) × ((length (now text) ≡ 4096) × Countable s)) ⌝ }
     ensures { λ r. ⌜ Whole (now (line .entry)) (functionLine (now (types .entry)) (now (sheet .entry)) s index) (now (line .exit)) r ⌝ }
 {
-    let mut text = [0u8; 4096];
     let name = given_name(sheet, s.at + 5);
-    let a = function_over(types, t, &mut text, s.flags, s.size, name, TypeIndex(index));
-    write_answer(line, (s.lines + 1) as u64, a, &text)
+    let a = function_over(types, t, text, s.flags, s.size, name, TypeIndex(index));
+    write_answer(line, (s.lines + 1) as u64, a, text)
 }
 
-// The line of a command at the start of a buffer; of a command with no line, nothing.
+// The line of a command at the start of a buffer; of a command with no line, nothing. A text call writes to the other buffer first.
 fn line_of(
     types: &[u8],
     ids: &[u8],
@@ -226,24 +226,24 @@ fn line_of(
     t: StreamCheck,
     u: StreamCheck,
     line: &mut [u8],
+    text: &mut [u8],
     s: State,
     c: Command,
 ) -> usize
-    requires { ⌜ (t ≡ checked Types (now types)) × ((u ≡ checked Ids (now ids)) × ((4150 ≤ length (now line)) × Countable s)) ⌝ }
+    requires { ⌜ (t ≡ checked Types (now types)) × ((u ≡ checked Ids (now ids)) × ((4150 ≤ length (now line)) × ((length (now text) ≡ 4096) × Countable s))) ⌝ }
     ensures { λ r. ⌜ Whole (now (line .entry)) (lineOf (now (types .entry)) (now (ids .entry)) (now (sheet .entry)) s c) (now (line .exit)) r ⌝ }
 {
     let number = (s.lines + 1) as u64;
-    let mut text = [0u8; 4096];
     match c {
         Command::TypeText(i) => {
-            let a = type_over(types, t, &mut text, s.flags, s.size, TypeIndex(i));
-            write_answer(line, number, a, &text)
+            let a = type_over(types, t, text, s.flags, s.size, TypeIndex(i));
+            write_answer(line, number, a, text)
         }
         Command::IdText(i) => {
-            let a = id_over(types, ids, t, u, &mut text, s.flags, s.size, IdIndex(i));
-            write_answer(line, number, a, &text)
+            let a = id_over(types, ids, t, u, text, s.flags, s.size, IdIndex(i));
+            write_answer(line, number, a, text)
         }
-        Command::FunctionText(i) => function_line(types, sheet, t, line, s, i),
+        Command::FunctionText(i) => function_line(types, sheet, t, line, text, s, i),
         Command::TypeSize(i) => write_size(line, number, size_over(types, t, s.size, TypeIndex(i))),
         Command::Faulty(b) => write_refused(line, number, Refusal::UnknownCommand(b)),
         Command::End => 0,
@@ -259,13 +259,15 @@ fn put_line(
     sheet: &[u8],
     t: StreamCheck,
     u: StreamCheck,
+    line: &mut [u8],
+    text: &mut [u8],
     out: &mut [u8],
     p: Pen,
     s: State,
     c: Command,
     skip: usize,
 ) -> Put
-    requires { ⌜ (t ≡ checked Types (now types)) × ((u ≡ checked Ids (now ids)) × ((p .at ≤ length (now out)) × Countable s)) ⌝ }
+    requires { ⌜ (t ≡ checked Types (now types)) × ((u ≡ checked Ids (now ids)) × ((4150 ≤ length (now line)) × ((length (now text) ≡ 4096) × ((p .at ≤ length (now out)) × Countable s)))) ⌝ }
     ensures { λ r. ⌜ placedOn (page (now (out .exit)) (r .pen)) (r .full) ≡ putOf (page (now (out .entry)) p) (ltb (s .lines) skip) (lineOf (now (types .entry)) (now (ids .entry)) (now (sheet .entry)) s c) ⌝ }
 {
     if s.lines < skip {
@@ -274,8 +276,7 @@ fn put_line(
             full: false,
         };
     }
-    let mut line = [0u8; 4160];
-    let n = line_of(types, ids, sheet, t, u, &mut line, s, c);
+    let n = line_of(types, ids, sheet, t, u, line, text, s, c);
     if n > out.len() - p.at {
         return Put { pen: p, full: true };
     }
@@ -283,6 +284,58 @@ fn put_line(
     Put {
         pen: q,
         full: false,
+    }
+}
+
+fn first_state() -> State
+    ensures { λ r. ⌜ r ≡ begin ⌝ }
+{
+    State {
+        at: 0,
+        lines: 0,
+        flags: 0,
+        size: 8,
+    }
+}
+
+// The lines of a sheet on the page from its start, over streams that are checked. Both buffers are lent to every line.
+fn put_lines(
+    types: &[u8],
+    ids: &[u8],
+    sheet: &[u8],
+    t: StreamCheck,
+    u: StreamCheck,
+    line: &mut [u8],
+    text: &mut [u8],
+    out: &mut [u8],
+    skip: usize,
+) -> Printed
+    requires { ⌜ (t ≡ checked Types (now types)) × ((u ≡ checked Ids (now ids)) × ((4150 ≤ length (now line)) × (length (now text) ≡ 4096))) ⌝ }
+    ensures { λ r. ⌜ shown (now (out .exit)) r ≡ laidOut (now (out .entry)) (sheetFit (now (types .entry)) (now (ids .entry)) (now (sheet .entry)) skip (length (now (out .entry)))) ⌝ }
+{
+    let mut p = start(out.len());
+    let mut s = first_state();
+    loop {
+        let c = command_at(sheet, s.at);
+        match step_of(c) {
+            Step::Over => return done(p, s.lines, skip, false),
+            Step::Setting => s = after(s, c),
+            Step::Last => {
+                let q = put_line(types, ids, sheet, t, u, line, text, out, p, s, c, skip);
+                if q.full {
+                    return done(q.pen, s.lines, skip, true);
+                }
+                return done(q.pen, s.lines + 1, skip, false);
+            }
+            Step::Line => {
+                let q = put_line(types, ids, sheet, t, u, line, text, out, p, s, c, skip);
+                if q.full {
+                    return done(q.pen, s.lines, skip, true);
+                }
+                p = q.pen;
+                s = after(s, c);
+            }
+        }
     }
 }
 
@@ -294,35 +347,7 @@ pub fn print_sheet(types: &[u8], ids: &[u8], sheet: &[u8], out: &mut [u8], skip:
 {
     let t = check_stream(types, StreamKind::Types);
     let u = check_stream(ids, StreamKind::Ids);
-    let mut p = start(out.len());
-    let mut s = State {
-        at: 0,
-        lines: 0,
-        flags: 0,
-        size: 8,
-    };
-    loop {
-        let c = command_at(sheet, s.at);
-        match step_of(c) {
-            Step::Over => return done(p, s.lines, skip, false),
-            Step::Setting => {
-                s = after(s, c);
-            }
-            Step::Last => {
-                let q = put_line(types, ids, sheet, t, u, out, p, s, c, skip);
-                if q.full {
-                    return done(q.pen, s.lines, skip, true);
-                }
-                return done(q.pen, s.lines + 1, skip, false);
-            }
-            Step::Line => {
-                let q = put_line(types, ids, sheet, t, u, out, p, s, c, skip);
-                if q.full {
-                    return done(q.pen, s.lines, skip, true);
-                }
-                p = q.pen;
-                s = after(s, c);
-            }
-        }
-    }
+    let mut line = [0u8; 4160];
+    let mut text = [0u8; 4096];
+    put_lines(types, ids, sheet, t, u, &mut line, &mut text, out, skip)
 }

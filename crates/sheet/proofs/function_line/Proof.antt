@@ -14,31 +14,28 @@ use Rattle.sheet.proofs.given_name.Reads as given-name-reads
 use Rattle.sheet.proofs.write_answer.Reads as write-answer-reads
 
 add-given-name : tie.Need-add-given-name
-add-given-name c = omega (arith, c .before .before .before .before .pre)
+add-given-name c = omega (arith, c .before .before .before .before .before .pre)
 
 given-name-requires : tie.Need-given-name-requires
 given-name-requires c κs = search needs
-
-slice-aggregate-function-over : tie.Need-slice-aggregate-function-over
-slice-aggregate-function-over c = search needs
 
 function-over-requires : tie.Need-function-over-requires
 function-over-requires c κs = search needs
 
 add-write-answer : tie.Need-add-write-answer
-add-write-answer c = omega (arith, c .before .before .before .before .before .before .before .before .before .before .pre)
-
-slice-aggregate-write-answer : tie.Need-slice-aggregate-write-answer
-slice-aggregate-write-answer c = search needs
+add-write-answer c = omega (arith, c .before .before .before .before .before .before .before .before .before .before .before .before .pre)
 
 write-answer-requires : tie.Need-write-answer-requires
-write-answer-requires c κs = omega (arith, c .before .before .before .before .before .before .before .before .before .before .before .pre)
+write-answer-requires c κs = omega (arith, c .before .before .before .before .before .before .before .before .before .before .before .before .before .pre)
 
 returns : tie.Need-returns
-returns c = whole-as (answer-line _ _ _ _ _ (c .before .before .before .before .before .before .before .function-over .ensures) ∙ ap (outcomeLine _) (function-outcome _ (c .before .before .before .before .before .before .before .before .before .before .before .before .before .before .pre .0) _ _ _ _ _ (c .before .before .before .before .before .before .before .before .before .given-name .ensures) (search needs))) (c .before .before .write-answer .ensures)
+returns c = whole-as (answer-line _ _ _ _ _ (c .before .before .before .before .before .before .before .before .function-over .ensures) ∙ ap (outcomeLine _) (function-outcome _ (c .before .before .before .before .before .before .before .before .before .before .before .before .before .before .before .before .pre .0) _ _ _ _ _ (c .before .before .before .before .before .before .before .before .before .before .given-name .ensures) (c .before .before .before .before .before .before .before .before .before .before .before .before .before .before .before .before .pre .1 .1 .0))) (c .before .before .write-answer .ensures)
 
 same-length : tie.Need-same-length
 same-length c = search needs
+
+same-length-2 : tie.Need-same-length-2
+same-length-2 c = search needs
 
 pub function-line-spec : {M : Type 1} → statement M
 function-line-spec =
@@ -46,10 +43,9 @@ function-line-spec =
     (tie.spec
     add-given-name
     given-name-requires
-    slice-aggregate-function-over
     function-over-requires
     add-write-answer
-    slice-aggregate-write-answer
     write-answer-requires
     same-length
+    same-length-2
     returns)

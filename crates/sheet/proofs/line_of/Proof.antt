@@ -18,43 +18,31 @@ use Rattle.sheet.proofs.write_refused.Reads as write-refused-reads
 use Rattle.sheet.proofs.write_size.Reads as write-size-reads
 
 add-number : tie.Need-add-number
-add-number c = omega (arith, c .before .before .before .before .before .pre)
+add-number c = omega (arith, c .before .before .before .before .before .before .pre)
 
 enum-known-c : tie.Need-enum-known-c
 enum-known-c c = search needs
 
-slice-aggregate-type-over : tie.Need-slice-aggregate-type-over
-slice-aggregate-type-over c = search needs
-
 type-over-requires : tie.Need-type-over-requires
 type-over-requires c κs = search needs
 
-slice-aggregate-write-answer : tie.Need-slice-aggregate-write-answer
-slice-aggregate-write-answer c = search needs
-
 write-answer-requires : tie.Need-write-answer-requires
-write-answer-requires c κs = omega (arith, c .before .before .before .before .before .before .before .before .before .before .before .before .before .pre)
+write-answer-requires c κs = omega (arith, c .before .before .before .before .before .before .before .before .before .before .before .before .before .before .before .pre)
 
 enum-known-c-2 : tie.Need-enum-known-c-2
 enum-known-c-2 c = search needs
 
-slice-aggregate-id-over : tie.Need-slice-aggregate-id-over
-slice-aggregate-id-over c = search needs
-
 id-over-requires : tie.Need-id-over-requires
 id-over-requires c κs = search needs
 
-slice-aggregate-write-answer-2 : tie.Need-slice-aggregate-write-answer-2
-slice-aggregate-write-answer-2 c = search needs
-
 write-answer-requires-2 : tie.Need-write-answer-requires-2
-write-answer-requires-2 c κs = omega (arith, c .before .before .before .before .before .before .before .before .before .before .before .before .before .pre)
+write-answer-requires-2 c κs = omega (arith, c .before .before .before .before .before .before .before .before .before .before .before .before .before .before .before .pre)
 
 enum-known-c-3 : tie.Need-enum-known-c-3
 enum-known-c-3 c = search needs
 
 function-line-requires : tie.Need-function-line-requires
-function-line-requires c κs = (c .before .before .before .before .before .before .before .before .before .pre .0, c .before .before .before .before .before .before .before .before .before .pre .1 .1)
+function-line-requires c κs = (c .before .before .before .before .before .before .before .before .before .before .before .pre .0, c .before .before .before .before .before .before .before .before .before .before .before .pre .1 .1)
 
 enum-known-c-4 : tie.Need-enum-known-c-4
 enum-known-c-4 c = search needs
@@ -63,13 +51,13 @@ size-over-requires : tie.Need-size-over-requires
 size-over-requires c κs = search needs
 
 write-size-requires : tie.Need-write-size-requires
-write-size-requires c κs = omega (arith, c .before .before .before .before .before .before .before .before .before .before .pre)
+write-size-requires c κs = omega (arith, c .before .before .before .before .before .before .before .before .before .before .before .pre)
 
 enum-known-c-5 : tie.Need-enum-known-c-5
 enum-known-c-5 c = search needs
 
 write-refused-requires : tie.Need-write-refused-requires
-write-refused-requires c κs = omega (arith, c .before .before .before .before .before .before .before .before .before .pre)
+write-refused-requires c κs = omega (arith, c .before .before .before .before .before .before .before .before .before .before .pre)
 
 enum-told : tie.Need-enum-told
 enum-told c = search needs
@@ -81,16 +69,16 @@ enum-known-c-7 : tie.Need-enum-known-c-7
 enum-known-c-7 c = search needs
 
 returns : tie.Need-returns
-returns c = whole-as (answer-line _ _ _ _ _ (c .before .before .before .before .before .before .type-over .ensures) ∙ ap (outcomeLine _) (type-outcome _ (c .before .before .before .before .before .before .before .before .before .before .before .before .before .before .before .before .pre .0) _ _ _ (search needs)) ∙ line-type _ _ _ _ _ _ (c .before .before .before .before .before .before .before .before .before .c .given .1)) (c .before .before .write-answer .ensures)
+returns c = whole-as (answer-line _ _ _ _ _ (c .before .before .before .before .before .before .before .type-over .ensures) ∙ ap (outcomeLine _) (type-outcome _ (c .before .before .before .before .before .before .before .before .before .before .before .before .before .before .before .before .before .before .pre .0) _ _ _ (c .before .before .before .before .before .before .before .before .before .before .before .before .before .before .before .before .before .before .pre .1 .1 .1 .0)) ∙ line-type _ _ _ _ _ _ (c .before .before .before .before .before .before .before .before .before .before .c .given .1)) (c .before .before .write-answer .ensures)
 
 returns-2 : tie.Need-returns-2
-returns-2 c = whole-as (answer-line _ _ _ _ _ (c .before .before .before .before .before .before .id-over .ensures) ∙ ap (outcomeLine _) (id-outcome _ (c .before .before .before .before .before .before .before .before .before .before .before .before .before .before .before .before .pre .0) _ (c .before .before .before .before .before .before .before .before .before .before .before .before .before .before .before .before .pre .1 .0) _ _ _ (search needs)) ∙ line-id _ _ _ _ _ _ (c .before .before .before .before .before .before .before .before .before .c2 .given .1)) (c .before .before .write-answer2 .ensures)
+returns-2 c = whole-as (answer-line _ _ _ _ _ (c .before .before .before .before .before .before .before .id-over .ensures) ∙ ap (outcomeLine _) (id-outcome _ (c .before .before .before .before .before .before .before .before .before .before .before .before .before .before .before .before .before .before .pre .0) _ (c .before .before .before .before .before .before .before .before .before .before .before .before .before .before .before .before .before .before .pre .1 .0) _ _ _ (c .before .before .before .before .before .before .before .before .before .before .before .before .before .before .before .before .before .before .pre .1 .1 .1 .0)) ∙ line-id _ _ _ _ _ _ (c .before .before .before .before .before .before .before .before .before .before .c2 .given .1)) (c .before .before .write-answer2 .ensures)
 
 returns-3 : tie.Need-returns-3
-returns-3 c = whole-as (line-function _ _ _ _ _ _ (c .before .before .before .before .before .c3 .given .1)) (c .before .before .function-line .ensures)
+returns-3 c = whole-as (line-function _ _ _ _ _ _ (c .before .before .before .before .before .before .before .before .c3 .given .1)) (c .before .before .before .before .function-line .ensures)
 
 returns-4 : tie.Need-returns-4
-returns-4 c = whole-as (ap (sizeLine _) (size-outcome _ (c .before .before .before .before .before .before .before .before .before .before .before .before .before .pre .0) _ _ _ (c .before .before .before .size-over .ensures)) ∙ line-size _ _ _ _ _ _ (c .before .before .before .before .before .before .c4 .given .1)) (c .before .before .write-size .ensures)
+returns-4 c = whole-as (ap (sizeLine _) (size-outcome _ (c .before .before .before .before .before .before .before .before .before .before .before .before .before .before .pre .0) _ _ _ (c .before .before .before .size-over .ensures)) ∙ line-size _ _ _ _ _ _ (c .before .before .before .before .before .before .c4 .given .1)) (c .before .before .write-size .ensures)
 
 returns-5 : tie.Need-returns-5
 returns-5 c = whole-as (line-faulty _ _ _ _ _ _ (c .before .before .before .before .before .c5 .given .1)) (c .before .before .write-refused .ensures)
@@ -119,20 +107,25 @@ same-length-4 c = search needs
 same-length-5 : tie.Need-same-length-5
 same-length-5 c = search needs
 
+same-length-6 : tie.Need-same-length-6
+same-length-6 c = search needs
+
+same-length-7 : tie.Need-same-length-7
+same-length-7 c = search needs
+
+same-length-8 : tie.Need-same-length-8
+same-length-8 c = search needs
+
 pub line-of-spec : {M : Type 1} → statement M
 line-of-spec =
     tie.close
     (tie.spec
     add-number
     enum-known-c
-    slice-aggregate-type-over
     type-over-requires
-    slice-aggregate-write-answer
     write-answer-requires
     enum-known-c-2
-    slice-aggregate-id-over
     id-over-requires
-    slice-aggregate-write-answer-2
     write-answer-requires-2
     enum-known-c-3
     function-line-requires
@@ -145,14 +138,17 @@ line-of-spec =
     enum-known-c-6
     enum-known-c-7
     same-length
-    returns
     same-length-2
-    returns-2
+    returns
     same-length-3
-    returns-3
     same-length-4
-    returns-4
+    returns-2
     same-length-5
+    same-length-6
+    returns-3
+    same-length-7
+    returns-4
+    same-length-8
     returns-5
     returns-6
     returns-7

@@ -14,44 +14,56 @@ use Rattle.sheet.proofs.line_of.Reads as line-of-reads
 returns : tie.Need-returns
 returns c = passed _ _ _ _ (c .if1 .taken)
 
-slice-aggregate-line-of : tie.Need-slice-aggregate-line-of
-slice-aggregate-line-of c = search needs
-
 line-of-requires : tie.Need-line-of-requires
-line-of-requires c κs = (c .before .before .before .before .before .before .before .pre .0, (c .before .before .before .before .before .before .before .pre .1 .0, (search needs, c .before .before .before .before .before .before .before .pre .1 .1 .1)))
+line-of-requires c κs = (c .before .before .before .before .before .before .before .before .before .before .pre .0, (c .before .before .before .before .before .before .before .before .before .before .pre .1 .0, (c .before .before .before .before .before .before .before .before .before .before .pre .1 .1 .0, (c .before .before .before .before .before .before .before .before .before .before .pre .1 .1 .1 .0, c .before .before .before .before .before .before .before .before .before .before .pre .1 .1 .1 .1 .1))))
 
 sub-if2 : tie.Need-sub-if2
-sub-if2 c = omega (arith, c .before .before .before .before .before .before .before .before .before .before .pre)
+sub-if2 c = omega (arith, c .before .before .before .before .before .before .before .before .before .before .before .before .before .before .before .before .pre)
 
 returns-2 : tie.Need-returns-2
-returns-2 c = stuck (c .before .before .before .line-of .ensures) _ _ _ (c .before .before .before .before .before .if1 .left) (c .if2 .taken)
+returns-2 c = stuck (c .before .before .before .before .before .before .line-of .ensures) _ _ _ (c .before .before .before .before .before .before .before .before .before .if1 .left) (c .if2 .taken)
 
-array-share-prefix-line : tie.Need-array-share-prefix-line
-array-share-prefix-line c = whole-short (c .before .before .before .before .line-of .ensures)
+slice-reshare-prefix-text : tie.Need-slice-reshare-prefix-text
+slice-reshare-prefix-text c = whole-short (c .before .before .before .before .before .before .before .line-of .ensures)
 
 slice-aggregate-text : tie.Need-slice-aggregate-text
-slice-aggregate-text c = whole-count (c .before .before .before .before .before .line-of .ensures)
+slice-aggregate-text c = whole-count (c .before .before .before .before .before .before .before .before .line-of .ensures)
 
 text-requires : tie.Need-text-requires
 text-requires c κs = search needs
 
 returns-3 : tie.Need-returns-3
-returns-3 c = placed (c .before .before .before .before .before .before .before .before .line-of .ensures) _ _ _ _ (c .before .before .before .before .before .before .before .before .before .before .if1 .left) (c .before .before .before .before .before .if2 .left) (c .before .before .text .ensures)
+returns-3 c = placed (c .before .before .before .before .before .before .before .before .before .before .before .line-of .ensures) _ _ _ _ (c .before .before .before .before .before .before .before .before .before .before .before .before .before .before .if1 .left) (c .before .before .before .before .before .if2 .left) (c .before .before .text2 .ensures)
 
 same-length : tie.Need-same-length
-same-length c = wrote-length (c .before .before .text .ensures)
+same-length c = search needs
+
+same-length-2 : tie.Need-same-length-2
+same-length-2 c = search needs
+
+same-length-3 : tie.Need-same-length-3
+same-length-3 c = search needs
+
+same-length-4 : tie.Need-same-length-4
+same-length-4 c = search needs
+
+same-length-5 : tie.Need-same-length-5
+same-length-5 c = wrote-length (c .before .before .text2 .ensures)
 
 pub put-line-spec : {M : Type 1} → statement M
 put-line-spec =
     tie.close
     (tie.spec
     returns
-    slice-aggregate-line-of
     line-of-requires
     sub-if2
+    same-length
+    same-length-2
     returns-2
-    array-share-prefix-line
+    slice-reshare-prefix-text
     slice-aggregate-text
     text-requires
-    same-length
+    same-length-3
+    same-length-4
+    same-length-5
     returns-3)
