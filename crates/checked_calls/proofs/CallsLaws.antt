@@ -9,24 +9,28 @@ use native.Mathlib.Omega.{arith}
 use borrow.Author.Tests.{le-leb}
 use Rattle.wire.specs.Field.{pick}
 use Rattle.streams.specs.Stream.{checked}
+use Rattle.streams.specs.Bounds.{none, streamIn, layoutIn, checkIn, placesIn}
 use Rattle.streams.specs.declared.refusal.StreamKind.the-variants.{Types, Ids}
 use Rattle.streams.specs.declared.refusal.Refusal.{Refusal}
 use Rattle.streams.specs.declared.refusal.Refusal.the-variants.{UnknownFlags, PointerSize, ChainTooLong}
+use Rattle.streams.specs.declared.stream.Stream.{Stream}
 use Rattle.streams.specs.declared.stream.StreamCheck.{StreamCheck}
 use Rattle.streams.specs.declared.stream.StreamCheck.the-variants as stream
 use Rattle.interpreter.specs.Trace.{Trace}
 use Rattle.rules.specs.Flags.{settings, sized, flagged}
-use Rattle.rules.specs.Record.{tableOf}
+use Rattle.rules.specs.Record.{Table, tableOf}
+use Rattle.rules.specs.Places.{Near, beside, tableIn}
 use Rattle.rules.specs.Task.{Task, byItself, functionOf, idOf, sizeOf}
-use Rattle.streams.specs.Bounds.{none}
 use Rattle.rules.specs.Call.{refusal, stopped, whole, overTypes, overIds, functionReading, idReading, typeReading, sizeReading, strictly, answer, within, functionOutcome, idOutcome, typeOutcome, sizeAnswer, sizeOutcome, ofSize}
-use Rattle.context.specs.Context.{known, settingsOf, tableIn, keysOf, holding}
+use Rattle.rules.proofs.Tables.{table-right, table-types}
+use Rattle.context.specs.Context.{known, settingsOf, keysOf, holding}
 use Rattle.context.specs.declared.flags.Call.{Call}
 use Rattle.context.specs.declared.flags.TypeFormatterFlags.{TypeFormatterFlags}
 use Rattle.context.specs.declared.flags.FlagsRead.{FlagsRead}
 use Rattle.context.specs.declared.flags.FlagsRead.the-variants as read
 use Rattle.pen.specs.Page.{page, Wrote}
 use Rattle.pen.specs.declared.Pen.{Pen}
+use Rattle.checked_calls.specs.Kept.{KeptOf}
 use Rattle.checked_calls.specs.Answers.{started, closed, laid}
 use Rattle.checked_calls.proofs.AnswerLaws.{answer-is}
 use Rattle.queries.specs.Sizes.{Sizes, sizeTrace}
@@ -88,35 +92,35 @@ module _ (k : Call → Trace Refusal) {r s : Checked} (e : s ≡ r) where
   refused-is : (buf : List ℕ) {f : Refusal} → s ≡ Refused f → laid buf (stopped f) ≡ laid buf (within (length buf) (performed r k))
   refused-is buf {f} g = let h : r ≡ Refused f = sym e ∙ g in rw h (ap (laid buf) (sym (refusal-within (length buf) f)))
 
-module _ (t : StreamCheck) (flags size : ℕ) (types : List ℕ) {r : Checked} where
-  module _ (e : r ≡ callBy t flags size) (i : ℕ) where
-    pub type-is : {c : Call} {buf b : List ℕ} {p q : Pen} → r ≡ Good c → Wrote (page buf p) (taken types [] (byItself i) c) (page b q) → p ≡ started (length buf)
-        → closed b q ≡ laid buf (typeOver t flags size types i (length buf))
+module _ (v : Near) (flags size : ℕ) (types : List ℕ) {r : Checked} where
+  module _ (e : r ≡ callBy (checkIn (v .bounds) Types) flags size) (i : ℕ) where
+    pub type-is : {c : Call} {buf b : List ℕ} {p q : Pen} → r ≡ Good c → Wrote (page buf p) (taken types (beside [] v) (byItself i) c) (page b q) → p ≡ started (length buf)
+        → closed b q ≡ laid buf (typeOver types v flags size i (length buf))
     unfolding typeOver
-    type-is = good-is (taken types [] (byItself i)) e
+    type-is = good-is (taken types (beside [] v) (byItself i)) e
 
-    pub type-refused : (buf : List ℕ) {f : Refusal} → r ≡ Refused f → laid buf (stopped f) ≡ laid buf (typeOver t flags size types i (length buf))
+    pub type-refused : (buf : List ℕ) {f : Refusal} → r ≡ Refused f → laid buf (stopped f) ≡ laid buf (typeOver types v flags size i (length buf))
     unfolding typeOver
-    type-refused buf = refused-is (taken types [] (byItself i)) e buf
+    type-refused buf = refused-is (taken types (beside [] v) (byItself i)) e buf
 
-    pub function-is : (name : List ℕ) {c : Call} {buf b : List ℕ} {p q : Pen} → r ≡ Good c → Wrote (page buf p) (taken types [] (functionOf i name) c) (page b q) → p ≡ started (length buf)
-        → closed b q ≡ laid buf (functionOver t flags size types name i (length buf))
+    pub function-is : (name : List ℕ) {c : Call} {buf b : List ℕ} {p q : Pen} → r ≡ Good c → Wrote (page buf p) (taken types (beside [] v) (functionOf i name) c) (page b q) → p ≡ started (length buf)
+        → closed b q ≡ laid buf (functionOver types v flags size name i (length buf))
     unfolding functionOver
-    function-is name = good-is (taken types [] (functionOf i name)) e
+    function-is name = good-is (taken types (beside [] v) (functionOf i name)) e
 
-    pub function-refused : (name buf : List ℕ) {f : Refusal} → r ≡ Refused f → laid buf (stopped f) ≡ laid buf (functionOver t flags size types name i (length buf))
+    pub function-refused : (name buf : List ℕ) {f : Refusal} → r ≡ Refused f → laid buf (stopped f) ≡ laid buf (functionOver types v flags size name i (length buf))
     unfolding functionOver
-    function-refused name buf = refused-is (taken types [] (functionOf i name)) e buf
+    function-refused name buf = refused-is (taken types (beside [] v) (functionOf i name)) e buf
 
-  module _ (u : StreamCheck) (ids : List ℕ) (e : r ≡ idsBy t u flags size) (i : ℕ) where
-    pub id-is : {c : Call} {buf b : List ℕ} {p q : Pen} → r ≡ Good c → Wrote (page buf p) (taken types ids (idOf i) c) (page b q) → p ≡ started (length buf)
-        → closed b q ≡ laid buf (idOver t u flags size types ids i (length buf))
+  module _ (ids : List ℕ) (e : r ≡ idsBy (checkIn (v .bounds) Types) (checkIn (v .bounds) Ids) flags size) (i : ℕ) where
+    pub id-is : {c : Call} {buf b : List ℕ} {p q : Pen} → r ≡ Good c → Wrote (page buf p) (taken types (beside ids v) (idOf i) c) (page b q) → p ≡ started (length buf)
+        → closed b q ≡ laid buf (idOver types ids v flags size i (length buf))
     unfolding idOver
-    id-is = good-is (taken types ids (idOf i)) e
+    id-is = good-is (taken types (beside ids v) (idOf i)) e
 
-    pub id-refused : (buf : List ℕ) {f : Refusal} → r ≡ Refused f → laid buf (stopped f) ≡ laid buf (idOver t u flags size types ids i (length buf))
+    pub id-refused : (buf : List ℕ) {f : Refusal} → r ≡ Refused f → laid buf (stopped f) ≡ laid buf (idOver types ids v flags size i (length buf))
     unfolding idOver
-    id-refused buf = refused-is (taken types ids (idOf i)) e buf
+    id-refused buf = refused-is (taken types (beside ids v) (idOf i)) e buf
 
 -- A checked call has passed no id of a chain: all 32 are left.
 abbrev chainOf : Checked → ℕ
@@ -148,69 +152,88 @@ unfolding ofSizeAnswer ofSize sizeAnswer within answer sizeTrace
 said-is (size.Bytes n) k = refl
 said-is (size.TooLong j) k = refl
 
-module _ (t : StreamCheck) (size : ℕ) (types : List ℕ) (i : ℕ) {r : Checked} (e : r ≡ typesBy t (record { 0 = 0 }) size) where
-  pub size-is : {c : Call} {s : SizeRead} {a : SizeAnswer} → r ≡ Good c → Sizes types c i 0 s → sizeSaid s ≡ a → ofSizeAnswer a ≡ ofSize (sizeOver t size types i)
+module _ (v : Near) (size : ℕ) (types : List ℕ) (i : ℕ) {r : Checked} (e : r ≡ typesBy (checkIn (v .bounds) Types) (record { 0 = 0 }) size) where
+  pub size-is : {c : Call} {s : SizeRead} {a : SizeAnswer} → r ≡ Good c → Sizes types v c i 0 s → sizeSaid s ≡ a → ofSizeAnswer a ≡ ofSize (sizeOver types v size i)
   unfolding sizeOver
   size-is {c} {s} {a} f g h =
-      let w = ap (λ r. performed r (taken types [] (sizeOf i 0))) (sym e ∙ f) in
+      let w = ap (λ r. performed r (taken types (beside [] v) (sizeOf i 0))) (sym e ∙ f) in
       rw (← h) (said-is s (g .taken) ∙ ap (λ t. ofSize (sizeAnswer (within 1 t))) (g .is [] (holding c []) ∙ sym w))
 
-  pub size-refused : {f : Refusal} → r ≡ Refused f → ofSizeAnswer (given.Refused f) ≡ ofSize (sizeOver t size types i)
+  pub size-refused : {f : Refusal} → r ≡ Refused f → ofSizeAnswer (given.Refused f) ≡ ofSize (sizeOver types v size i)
   unfolding sizeOver ofSizeAnswer ofSize sizeAnswer within answer
   size-refused {f} g = rw (sym e ∙ g) refl
 
--- What a call reads by the rules, with the real checks of its streams.
-module _ (types : List ℕ) (size : ℕ) (x : Task) where
-  with-types : (flags : ℕ) (b : Bool) (s : StreamCheck) (f : Refusal)
+-- The table by what is kept of the checks is the plain one.
+module _ (types : List ℕ) (v : Near) (k : KeptOf Types types v) (t : Stream) (e : checked Types types ≡ stream.Good t) where
+  kept-types : tableIn types (beside [] v) ≡ tableOf types t [] none
+  unfolding tableIn
+  kept-types =
+      let s : streamIn (v .bounds) Types ≡ t = k .stream t e in
+      rw s (table-types (layoutIn (v .bounds) Types) (placesIn (v .bounds) (v .places) Types) types t (k .right t e) (layoutIn (v .bounds) Ids) (placesIn (v .bounds) (v .places) Ids) (streamIn (v .bounds) Ids))
+
+  kept-ids : (ids : List ℕ) → KeptOf Ids ids v → (u : Stream) → checked Ids ids ≡ stream.Good u → tableIn types (beside ids v) ≡ tableOf types t ids u
+  unfolding tableIn
+  kept-ids ids j u f =
+      let s : streamIn (v .bounds) Types ≡ t = k .stream t e in
+      let w : streamIn (v .bounds) Ids ≡ u = j .stream u f in
+      rw (s, w) (table-right (layoutIn (v .bounds) Types) (placesIn (v .bounds) (v .places) Types) types t (k .right t e) (layoutIn (v .bounds) Ids) (placesIn (v .bounds) (v .places) Ids) ids u (j .right u f))
+
+-- What a call reads by the rules, with what is kept of the real checks of its streams.
+module _ (types : List ℕ) (v : Near) (kept : KeptOf Types types v) (size : ℕ) (x : Task) where
+  with-types : (flags : ℕ) (b : Bool) (s : StreamCheck) (f : Refusal) → checked Types types ≡ s
       → pick b (whole s (λ t. strictly (settings flags size) (tableOf types t [] none) x)) (refusal f)
-      ≡ performed (pick b (withTypes (record { 0 = flags }) size s) (Refused f)) (taken types [] x)
-  unfolding whole settingsOf tableIn holding keysOf
-  with-types flags true (stream.Good t) f = refl
-  with-types flags true (stream.Refused g) f = refl
-  with-types flags false s f = refl
+      ≡ performed (pick b (withTypes (record { 0 = flags }) size s) (Refused f)) (taken types (beside [] v) x)
+  unfolding whole settingsOf holding keysOf
+  with-types flags true (stream.Good t) f e = ap (λ (y : Table). strictly (settings flags size) y x) (sym (kept-types types v kept t e))
+  with-types flags true (stream.Refused g) f e = refl
+  with-types flags false s f e = refl
 
-  with-flags : (flags : ℕ) (a b : Bool) (s : StreamCheck) (e f : Refusal)
+  with-flags : (flags : ℕ) (a b : Bool) (s : StreamCheck) (e f : Refusal) → checked Types types ≡ s
       → pick a (pick b (whole s (λ t. strictly (settings flags size) (tableOf types t [] none) x)) (refusal f)) (refusal e)
-      ≡ performed (pick a (pick b (withTypes (record { 0 = flags }) size s) (Refused f)) (Refused e)) (taken types [] x)
-  with-flags flags true b s e f = with-types flags b s f
-  with-flags flags false b s e f = refl
+      ≡ performed (pick a (pick b (withTypes (record { 0 = flags }) size s) (Refused f)) (Refused e)) (taken types (beside [] v) x)
+  with-flags flags true b s e f h = with-types flags b s f h
+  with-flags flags false b s e f h = refl
 
-  over-types : (flags : ℕ) → overTypes strictly flags size types x ≡ performed (callBy (checked Types types) flags size) (taken types [] x)
+  over-types : (flags : ℕ) → overTypes strictly flags size types x ≡ performed (callBy (checkIn (v .bounds) Types) flags size) (taken types (beside [] v) x)
   unfolding overTypes callBy typesBy flagged sized
-  over-types flags = with-flags flags (ltb flags 64) (eqb size 4 || (eqb size 8 || eqb size 16)) (checked Types types) (UnknownFlags flags) (PointerSize size)
+  over-types flags = rw (kept .check) (with-flags flags (ltb flags 64) (eqb size 4 || (eqb size 8 || eqb size 16)) (checked Types types) (UnknownFlags flags) (PointerSize size) refl)
 
-  with-ids : (ids : List ℕ) (flags : ℕ) (a b : Bool) (s u : StreamCheck) (e f : Refusal)
-      → pick a (pick b (whole s (λ t. whole u (λ u. strictly (settings flags size) (tableOf types t ids u) x))) (refusal f)) (refusal e)
-      ≡ performed (andIds (pick a (pick b (withTypes (record { 0 = flags }) size s) (Refused f)) (Refused e)) u) (taken types ids x)
-  unfolding whole settingsOf tableIn holding keysOf
-  with-ids ids flags true true (stream.Good t) (stream.Good u) e f = refl
-  with-ids ids flags true true (stream.Good t) (stream.Refused g) e f = refl
-  with-ids ids flags true true (stream.Refused g) u e f = refl
-  with-ids ids flags true false s u e f = refl
-  with-ids ids flags false b s u e f = refl
+  module _ (ids : List ℕ) (keptIds : KeptOf Ids ids v) where
+    with-ids : (flags : ℕ) (a b : Bool) (s u : StreamCheck) (e f : Refusal) → checked Types types ≡ s → checked Ids ids ≡ u
+        → pick a (pick b (whole s (λ t. whole u (λ u. strictly (settings flags size) (tableOf types t ids u) x))) (refusal f)) (refusal e)
+        ≡ performed (andIds (pick a (pick b (withTypes (record { 0 = flags }) size s) (Refused f)) (Refused e)) u) (taken types (beside ids v) x)
+    unfolding whole settingsOf holding keysOf
+    with-ids flags true true (stream.Good t) (stream.Good u) e f h j = ap (λ (y : Table). strictly (settings flags size) y x) (sym (kept-ids types v kept t h ids keptIds u j))
+    with-ids flags true true (stream.Good t) (stream.Refused g) e f h j = refl
+    with-ids flags true true (stream.Refused g) u e f h j = refl
+    with-ids flags true false s u e f h j = refl
+    with-ids flags false b s u e f h j = refl
 
-  over-ids : (ids : List ℕ) (flags : ℕ) → overIds strictly flags size types ids x ≡ performed (idsBy (checked Types types) (checked Ids ids) flags size) (taken types ids x)
-  unfolding overIds idsBy callBy typesBy flagged sized
-  over-ids ids flags =
-      with-ids ids flags (ltb flags 64) (eqb size 4 || (eqb size 8 || eqb size 16)) (checked Types types) (checked Ids ids) (UnknownFlags flags) (PointerSize size)
+    over-ids : (flags : ℕ) → overIds strictly flags size types ids x ≡ performed (idsBy (checkIn (v .bounds) Types) (checkIn (v .bounds) Ids) flags size) (taken types (beside ids v) x)
+    unfolding overIds idsBy callBy typesBy flagged sized
+    over-ids flags =
+        rw (kept .check, keptIds .check)
+        (with-ids flags (ltb flags 64) (eqb size 4 || (eqb size 8 || eqb size 16)) (checked Types types) (checked Ids ids) (UnknownFlags flags) (PointerSize size) refl refl)
 
-over-size : (types : List ℕ) (size i : ℕ) → sizeReading strictly size types i ≡ performed (typesBy (checked Types types) (record { 0 = 0 }) size) (taken types [] (sizeOf i 0))
-unfolding sizeReading typesBy sized
-over-size types size i = with-types types size (sizeOf i 0) 0 (eqb size 4 || (eqb size 8 || eqb size 16)) (checked Types types) (PointerSize size)
+-- Over what is kept of the checks of the same bytes the four calls are the rules' own. The arguments, as far as a call has them: types, ids, name, flags, size,
+-- i, room.
+module _ (types : List ℕ) (v : Near) (kept : KeptOf Types types v) where
+  over-size : (size i : ℕ) → sizeReading strictly size types i ≡ performed (typesBy (checkIn (v .bounds) Types) (record { 0 = 0 }) size) (taken types (beside [] v) (sizeOf i 0))
+  unfolding sizeReading typesBy sized
+  over-size size i = rw (kept .check) (with-types types v kept size (sizeOf i 0) 0 (eqb size 4 || (eqb size 8 || eqb size 16)) (checked Types types) (PointerSize size) refl)
 
--- With the real checks the four calls are the rules' own. The arguments, as far as a call has them: types, ids, name, flags, size, i, room.
-pub function-over : (types name : List ℕ) (flags size i room : ℕ) → functionOver (checked Types types) flags size types name i room ≡ functionOutcome flags size types name i room
-unfolding functionOver functionOutcome functionReading
-function-over types name flags size i room = ap (within room) (sym (over-types types size (functionOf i name) flags))
+  pub function-over : (name : List ℕ) (flags size i room : ℕ) → functionOver types v flags size name i room ≡ functionOutcome flags size types name i room
+  unfolding functionOver functionOutcome functionReading
+  function-over name flags size i room = ap (within room) (sym (over-types types v kept size (functionOf i name) flags))
 
-pub id-over : (types ids : List ℕ) (flags size i room : ℕ) → idOver (checked Types types) (checked Ids ids) flags size types ids i room ≡ idOutcome flags size types ids i room
-unfolding idOver idOutcome idReading
-id-over types ids flags size i room = ap (within room) (sym (over-ids types size (idOf i) ids flags))
+  pub id-over : (ids : List ℕ) → KeptOf Ids ids v → (flags size i room : ℕ) → idOver types ids v flags size i room ≡ idOutcome flags size types ids i room
+  unfolding idOver idOutcome idReading
+  id-over ids k flags size i room = ap (within room) (sym (over-ids types v kept size (idOf i) ids k flags))
 
-pub type-over : (types : List ℕ) (flags size i room : ℕ) → typeOver (checked Types types) flags size types i room ≡ typeOutcome flags size types i room
-unfolding typeOver typeOutcome typeReading
-type-over types flags size i room = ap (within room) (sym (over-types types size (byItself i) flags))
+  pub type-over : (flags size i room : ℕ) → typeOver types v flags size i room ≡ typeOutcome flags size types i room
+  unfolding typeOver typeOutcome typeReading
+  type-over flags size i room = ap (within room) (sym (over-types types v kept size (byItself i) flags))
 
-pub size-over : (types : List ℕ) (size i : ℕ) → sizeOver (checked Types types) size types i ≡ sizeOutcome size types i
-unfolding sizeOver sizeOutcome
-size-over types size i = ap (λ t. sizeAnswer (within 1 t)) (sym (over-size types size i))
+  pub size-over : (size i : ℕ) → sizeOver types v size i ≡ sizeOutcome size types i
+  unfolding sizeOver sizeOutcome
+  size-over size i = ap (λ t. sizeAnswer (within 1 t)) (sym (over-size size i))

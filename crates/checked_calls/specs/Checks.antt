@@ -1,17 +1,18 @@
--- What the checks of a call come to, given the results of the stream checks; the answer of each call over them; and what a size call tells.
+-- What the checks of a call come to, given what is kept of the stream checks; the answer of each call over them; and what a size call tells.
 use Prim.Native.Nat.{ℕ}
 use mathlib.Core.List.{List, []}
 use Rattle.streams.specs.declared.refusal.Refusal.{Refusal}
-use Rattle.streams.specs.declared.stream.Stream.{Stream}
+use Rattle.streams.specs.Bounds.{checkIn}
+use Rattle.streams.specs.declared.refusal.StreamKind.the-variants.{Types, Ids}
 use Rattle.streams.specs.declared.stream.StreamCheck.{StreamCheck}
 use Rattle.streams.specs.declared.stream.StreamCheck.the-variants as stream
 use Rattle.interpreter.specs.Trace.{Trace}
 use Rattle.rules.specs.Flags.{sized, flagged}
+use Rattle.rules.specs.Places.{Near, Lent, beside, tableIn}
 use Rattle.rules.specs.Task.{Task, byItself, functionOf, idOf, sizeOf}
 use Rattle.rules.specs.Opening.{walked}
-use Rattle.streams.specs.Bounds.{none}
 use Rattle.rules.specs.Call.{Outcome, Size, refusal, within, sizeAnswer, Report, refusedBy, accepted}
-use Rattle.context.specs.Context.{settingsOf, tableIn, holding}
+use Rattle.context.specs.Context.{settingsOf, holding}
 use Rattle.context.specs.declared.flags.Call.{Call}
 use Rattle.context.specs.declared.flags.TypeFormatterFlags.{TypeFormatterFlags}
 use Rattle.checked_calls.specs.declared.calls.Checked.{Checked}
@@ -20,16 +21,16 @@ use Rattle.checked_calls.specs.declared.calls.SizeAnswer.{SizeAnswer}
 use Rattle.checked_calls.specs.declared.calls.SizeAnswer.the-variants as size
 
 -- The call over checked streams, with no id of a chain of scopes passed yet.
-abbrev pub callOver : TypeFormatterFlags → ℕ → Stream → Stream → Call
-callOver flags size t u = record { flags = flags; size = size; chain = 0; types = t; ids = u }
+abbrev pub callOver : TypeFormatterFlags → ℕ → Call
+callOver flags size = record { flags = flags; size = size; chain = 0 }
 
 -- What follows from the check of the types, and from the check of the ids.
 abbrev pub withTypes : TypeFormatterFlags → ℕ → StreamCheck → Checked
-withTypes flags size (stream.Good t) = Good (callOver flags size t none)
+withTypes flags size (stream.Good t) = Good (callOver flags size)
 withTypes flags size (stream.Refused f) = Refused f
 
 abbrev pub withIds : Call → StreamCheck → Checked
-withIds c (stream.Good u) = Good (record { flags = c .flags; size = c .size; chain = c .chain; types = c .types; ids = u })
+withIds c (stream.Good u) = Good c
 withIds c (stream.Refused f) = Refused f
 
 abbrev pub andIds : Checked → StreamCheck → Checked
@@ -53,24 +54,28 @@ performed (Good c) k = k c
 performed (Refused f) k = refusal f
 
 -- The walk of a task over a checked call, with nothing open.
-abbrev pub taken : List ℕ → List ℕ → Task → Call → Trace Refusal
-taken types ids x c = walked (settingsOf c) (tableIn types ids c) (holding c []) x
+abbrev pub taken : List ℕ → Lent → Task → Call → Trace Refusal
+taken types d x c = walked (settingsOf c) (tableIn types d) (holding c []) x
 
--- The answer of a function call: its flags, pointer size and types are checked, then the function is walked.
-unfoldable pub functionOver : StreamCheck → ℕ → ℕ → List ℕ → List ℕ → ℕ → ℕ → Outcome
-functionOver t flags size types name i room = within room (performed (callBy t flags size) (taken types [] (functionOf i name)))
+-- The answer of a function call over what was kept of a check, whatever that is: its flags and pointer size are checked, then what is kept of the types' check
+-- is looked at, then the function is walked.
+unfoldable pub functionOver : List ℕ → Near → ℕ → ℕ → List ℕ → ℕ → ℕ → Outcome
+functionOver types v flags size name i room =
+    within room (performed (callBy (checkIn (v .bounds) Types) flags size) (taken types (beside [] v) (functionOf i name)))
 
--- The answer of an id call: the ids are checked too.
-unfoldable pub idOver : StreamCheck → StreamCheck → ℕ → ℕ → List ℕ → List ℕ → ℕ → ℕ → Outcome
-idOver t u flags size types ids i room = within room (performed (idsBy t u flags size) (taken types ids (idOf i)))
+-- The answer of an id call: the ids are looked at too.
+unfoldable pub idOver : List ℕ → List ℕ → Near → ℕ → ℕ → ℕ → ℕ → Outcome
+idOver types ids v flags size i room =
+    within room (performed (idsBy (checkIn (v .bounds) Types) (checkIn (v .bounds) Ids) flags size) (taken types (beside ids v) (idOf i)))
 
 -- The answer of a type call: the checks of a function call, then the walk of the type by itself.
-unfoldable pub typeOver : StreamCheck → ℕ → ℕ → List ℕ → ℕ → ℕ → Outcome
-typeOver t flags size types i room = within room (performed (callBy t flags size) (taken types [] (byItself i)))
+unfoldable pub typeOver : List ℕ → Near → ℕ → ℕ → ℕ → ℕ → Outcome
+typeOver types v flags size i room = within room (performed (callBy (checkIn (v .bounds) Types) flags size) (taken types (beside [] v) (byItself i)))
 
 -- The answer of a size call, which takes no flags. Its walk writes one number.
-unfoldable pub sizeOver : StreamCheck → ℕ → List ℕ → ℕ → Size
-sizeOver t size types i = sizeAnswer (within 1 (performed (typesBy t (record { 0 = 0 }) size) (taken types [] (sizeOf i 0))))
+unfoldable pub sizeOver : List ℕ → Near → ℕ → ℕ → Size
+sizeOver types v size i =
+    sizeAnswer (within 1 (performed (typesBy (checkIn (v .bounds) Types) (record { 0 = 0 }) size) (taken types (beside [] v) (sizeOf i 0))))
 
 -- What each case of a size answer tells.
 unfoldable pub ofSizeAnswer : SizeAnswer → Report

@@ -1,9 +1,12 @@
-// The four calls over the results of the stream checks, so that a caller may check each stream once for many calls.
+// The four calls over what is kept of the stream checks, so that a caller may check each stream once for many calls. They take any numbers and any places.
 ghost use mathlib.Core.Path.{_≡_};
 ghost use mathlib.Core.Bool.{_||_};
 ghost use lib.Dec.{eqb};
 ghost use lib.ListN.{length};
+ghost use Rattle.streams.specs.Bounds.{checkIn};
+ghost use Rattle.streams.specs.declared.refusal.StreamKind.the-variants.{Types, Ids};
 ghost use Rattle.rules.specs.Call.{stopped, ofSize};
+ghost use Rattle.rules.specs.Places.{near};
 ghost use Rattle.checked_calls.specs.Answers.{given, laid};
 ghost use Rattle.checked_calls.specs.Checks.{typesBy, callBy, idsBy, functionOver, idOver, typeOver, sizeOver, ofSizeAnswer};
 use crate::answer::Answer;
@@ -19,8 +22,9 @@ use id_writers::emit_function;
 use id_writers::emit_id;
 use queries::sizes::SizeRead;
 use queries::sizes::get_type_size;
+use streams::bounds::check_in;
 use streams::refusal::Refusal;
-use streams::stream::Stream;
+use streams::refusal::StreamKind;
 use streams::stream::StreamCheck;
 
 // What the checks of a call come to.
@@ -47,21 +51,15 @@ fn is_pointer_size(size: u32) -> bool
 }
 
 // A call with its flags known: the pointer size, then the types.
-fn check_types(t: StreamCheck, flags: TypeFormatterFlags, size: u32) -> Checked
-    ensures { λ r. ⌜ r ≡ typesBy t flags size ⌝ }
+fn check_types(bounds: &[u32], flags: TypeFormatterFlags, size: u32) -> Checked
+    ensures { λ r. ⌜ r ≡ typesBy (checkIn (now (bounds .entry)) Types) flags size ⌝ }
 {
     if is_pointer_size(size) {
-        match t {
-            StreamCheck::Good(types) => Checked::Good(Call {
+        match check_in(bounds, StreamKind::Types) {
+            StreamCheck::Good(_) => Checked::Good(Call {
                 flags,
                 size,
                 chain: 0,
-                types,
-                ids: Stream {
-                    first: 0,
-                    end: 0,
-                    stop: 0,
-                },
             }),
             StreamCheck::Refused(f) => Checked::Refused(f),
         }
@@ -70,32 +68,22 @@ fn check_types(t: StreamCheck, flags: TypeFormatterFlags, size: u32) -> Checked
     }
 }
 
-fn check_call(t: StreamCheck, flags: u32, size: u32) -> Checked
-    ensures { λ r. ⌜ r ≡ callBy t flags size ⌝ }
+fn check_call(bounds: &[u32], flags: u32, size: u32) -> Checked
+    ensures { λ r. ⌜ r ≡ callBy (checkIn (now (bounds .entry)) Types) flags size ⌝ }
 {
     match TypeFormatterFlags::from_bits(flags) {
-        FlagsRead::Known(known) => check_types(t, known, size),
+        FlagsRead::Known(known) => check_types(bounds, known, size),
         FlagsRead::Refused(f) => Checked::Refused(f),
     }
 }
 
 // The ids too.
-fn check_id_call(t: StreamCheck, u: StreamCheck, flags: u32, size: u32) -> Checked
-    ensures { λ r. ⌜ r ≡ idsBy t u flags size ⌝ }
+fn check_id_call(bounds: &[u32], flags: u32, size: u32) -> Checked
+    ensures { λ r. ⌜ r ≡ idsBy (checkIn (now (bounds .entry)) Types) (checkIn (now (bounds .entry)) Ids) flags size ⌝ }
 {
-    match check_call(t, flags, size) {
-        Checked::Good(call) => match u {
-            StreamCheck::Good(ids) => {
-                let types = call.types;
-                let known = call.flags;
-                Checked::Good(Call {
-                    flags: known,
-                    size: call.size,
-                    chain: call.chain,
-                    types,
-                    ids,
-                })
-            }
+    match check_call(bounds, flags, size) {
+        Checked::Good(call) => match check_in(bounds, StreamKind::Ids) {
+            StreamCheck::Good(_) => Checked::Good(call),
             StreamCheck::Refused(f) => Checked::Refused(f),
         },
         Checked::Refused(f) => Checked::Refused(f),
@@ -114,19 +102,20 @@ fn refuse_call(out: &mut [u8], f: Refusal) -> Answer
 // The text of a function, by its name and type.
 pub fn function_over(
     types: &[u8],
-    t: StreamCheck,
+    bounds: &[u32],
+    places: &[u32],
     out: &mut [u8],
     flags: u32,
     size: u32,
     name: &[u8],
     index: TypeIndex,
 ) -> Answer
-    ensures { λ r. ⌜ given (now (out .exit)) r ≡ laid (now (out .entry)) (functionOver t flags size (now (types .entry)) (now (name .entry)) (index .0) (length (now (out .entry)))) ⌝ }
+    ensures { λ r. ⌜ given (now (out .exit)) r ≡ laid (now (out .entry)) (functionOver (now (types .entry)) (near (now (bounds .entry)) (now (places .entry))) flags size (now (name .entry)) (index .0) (length (now (out .entry)))) ⌝ }
 {
-    match check_call(t, flags, size) {
+    match check_call(bounds, flags, size) {
         Checked::Good(call) => {
             let c = start(out.len());
-            let d = emit_function(types, b"", out, c, call, name, index);
+            let d = emit_function(types, b"", bounds, places, out, c, call, name, index);
             close(out, d)
         }
         Checked::Refused(f) => refuse_call(out, f),
@@ -137,19 +126,19 @@ pub fn function_over(
 pub fn id_over(
     types: &[u8],
     ids: &[u8],
-    t: StreamCheck,
-    u: StreamCheck,
+    bounds: &[u32],
+    places: &[u32],
     out: &mut [u8],
     flags: u32,
     size: u32,
     index: IdIndex,
 ) -> Answer
-    ensures { λ r. ⌜ given (now (out .exit)) r ≡ laid (now (out .entry)) (idOver t u flags size (now (types .entry)) (now (ids .entry)) (index .0) (length (now (out .entry)))) ⌝ }
+    ensures { λ r. ⌜ given (now (out .exit)) r ≡ laid (now (out .entry)) (idOver (now (types .entry)) (now (ids .entry)) (near (now (bounds .entry)) (now (places .entry))) flags size (index .0) (length (now (out .entry)))) ⌝ }
 {
-    match check_id_call(t, u, flags, size) {
+    match check_id_call(bounds, flags, size) {
         Checked::Good(call) => {
             let first = start(out.len());
-            let last = emit_id(types, ids, out, first, call, 32, index);
+            let last = emit_id(types, ids, bounds, places, out, first, call, 32, index);
             close(out, last)
         }
         Checked::Refused(f) => refuse_call(out, f),
@@ -159,19 +148,31 @@ pub fn id_over(
 // The text of a type.
 pub fn type_over(
     types: &[u8],
-    t: StreamCheck,
+    bounds: &[u32],
+    places: &[u32],
     out: &mut [u8],
     flags: u32,
     size: u32,
     index: TypeIndex,
 ) -> Answer
-    ensures { λ r. ⌜ given (now (out .exit)) r ≡ laid (now (out .entry)) (typeOver t flags size (now (types .entry)) (index .0) (length (now (out .entry)))) ⌝ }
+    ensures { λ r. ⌜ given (now (out .exit)) r ≡ laid (now (out .entry)) (typeOver (now (types .entry)) (near (now (bounds .entry)) (now (places .entry))) flags size (index .0) (length (now (out .entry)))) ⌝ }
 {
-    match check_call(t, flags, size) {
+    match check_call(bounds, flags, size) {
         Checked::Good(call) => {
             let mut none = [0u64; 96];
             let a = start(out.len());
-            let b = emit_type_index(types, b"", out, a, call, &mut none, 96, index);
+            let b = emit_type_index(
+                types,
+                b"",
+                bounds,
+                places,
+                out,
+                a,
+                call,
+                &mut none,
+                96,
+                index,
+            );
             close(out, b)
         }
         Checked::Refused(f) => refuse_call(out, f),
@@ -179,11 +180,17 @@ pub fn type_over(
 }
 
 // The size of a type; this call takes no flags.
-pub fn size_over(types: &[u8], t: StreamCheck, size: u32, index: TypeIndex) -> SizeAnswer
-    ensures { λ r. ⌜ ofSizeAnswer r ≡ ofSize (sizeOver t size (now (types .entry)) (index .0)) ⌝ }
+pub fn size_over(
+    types: &[u8],
+    bounds: &[u32],
+    places: &[u32],
+    size: u32,
+    index: TypeIndex,
+) -> SizeAnswer
+    ensures { λ r. ⌜ ofSizeAnswer r ≡ ofSize (sizeOver (now (types .entry)) (near (now (bounds .entry)) (now (places .entry))) size (index .0)) ⌝ }
 {
-    match check_types(t, TypeFormatterFlags(0), size) {
-        Checked::Good(call) => match get_type_size(types, call, index, 0) {
+    match check_types(bounds, TypeFormatterFlags(0), size) {
+        Checked::Good(call) => match get_type_size(types, bounds, places, call, index, 0) {
             SizeRead::Bytes(n) => SizeAnswer::Bytes(n),
             SizeRead::TooLong(i) => SizeAnswer::Refused(Refusal::ChainTooLong(i)),
         },

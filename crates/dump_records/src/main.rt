@@ -26,10 +26,15 @@ use codeview::record::UniqueName;
 use files::say;
 use libc::STDERR_FILENO;
 use libc::STDOUT_FILENO;
+use streams::bounds::bounds_of;
+use streams::bounds::layout_in;
+use streams::bounds::places_in;
+use streams::bounds::stream_in;
+use streams::chains::check_stream;
+use streams::places::look_up;
 use streams::refusal::Refusal;
 use streams::refusal::StreamKind;
 use streams::stream::Found;
-use streams::stream::Stream;
 use streams::stream::StreamCheck;
 use wire::field::Field32;
 use wire::name::Name;
@@ -259,53 +264,61 @@ fn refused(f: Refusal) {
     }
 }
 
-fn type_line(s: &[u8], stream: Stream, index: u32) {
-    match codeview::types::type_at(s, stream, TypeIndex(index)) {
+fn type_line(s: &[u8], bounds: &[u32], places: &[u32], index: u32) {
+    match codeview::types::type_at(s, bounds, places, TypeIndex(index)) {
         TypeRead::Good(t) => type_data(s, t),
         TypeRead::Refused(f) => refused(f),
     }
 }
 
-fn id_line(s: &[u8], stream: Stream, index: u32) {
-    match codeview::ids::id_at(s, stream, IdIndex(index)) {
+fn id_line(s: &[u8], bounds: &[u32], places: &[u32], index: u32) {
+    match codeview::ids::id_at(s, bounds, places, IdIndex(index)) {
         IdRead::Good(d) => id_data(s, d),
         IdRead::Refused(f) => refused(f),
     }
 }
 
-fn line(s: &[u8], stream: Stream, ids: bool, index: u32) {
+fn line(s: &[u8], bounds: &[u32], places: &[u32], which: StreamKind, index: u32) {
     hex(b"", index);
+    let near = places_in(bounds, places, which);
+    let l = layout_in(bounds, which);
+    let stream = stream_in(bounds, which);
     if let Found::Record {
         kind,
         start: _,
         end: _,
-    } = streams::stream::look_up(s, stream, index) {
+    } = look_up(s, near, l, stream, index) {
         hex(b" ", kind as u32);
     }
-    if ids {
-        id_line(s, stream, index);
-    } else {
-        type_line(s, stream, index);
+    match which {
+        StreamKind::Types => type_line(s, bounds, places, index),
+        StreamKind::Ids => id_line(s, bounds, places, index),
     }
     say(b"\n");
 }
 
-fn lines(s: &[u8], stream: Stream, ids: bool, first: u32, end: u32) {
+fn lines(s: &[u8], bounds: &[u32], places: &[u32], which: StreamKind, first: u32, end: u32) {
     let mut index = first;
     while index < end {
-        line(s, stream, ids, index);
+        line(s, bounds, places, which, index);
         index += 1;
     }
 }
 
-fn table(s: &[u8], ids: bool) {
-    let which = if ids {
-        StreamKind::Ids
-    } else {
-        StreamKind::Types
+// The one stream stands for both: its places are the types' or the ids'.
+fn table(s: &[u8], which: StreamKind) {
+    let mut places = [0u32; 256];
+    let a = check_stream(s, which, &mut places);
+    let split = match which {
+        StreamKind::Types => 256,
+        StreamKind::Ids => 0,
     };
-    match streams::stream::check_stream(s, which) {
-        StreamCheck::Good(stream) => lines(s, stream, ids, stream.first, stream.end),
+    let c = a.check;
+    match c {
+        StreamCheck::Good(stream) => {
+            let bounds = bounds_of(a, a, split);
+            lines(s, &bounds, &places, which, stream.first, stream.end);
+        }
         StreamCheck::Refused(f) => {
             decimal(b"refused ", f.number() as u64);
             hex(b" ", f.detail());
@@ -320,7 +333,7 @@ fn room() -> [u8; 1_048_576] {
 }
 
 // A file as a table. Of one that is longer than the buffer only the start is read, and that is said.
-fn show(path: &[u8], ids: bool) {
+fn show(path: &[u8], which: StreamKind) {
     let fd = os::open_read(path);
     if fd < 0 {
         os::fail(path);
@@ -335,20 +348,20 @@ fn show(path: &[u8], ids: bool) {
             b"records: only the first 1,048,576 bytes are read\n",
         );
     }
-    table(&buffer[..n], ids);
+    table(&buffer[..n], which);
 }
 
 // The table of a file, under a line that names it.
 fn titled(word: &[u8], path: &[u8]) {
-    let ids = check::same(word, b"ids");
-    if ids {
-        say(b"ids ");
-    } else {
-        say(b"types ");
-    }
+    say(word);
+    say(b" ");
     say(path);
     say(b"\n");
-    show(path, ids);
+    if check::same(word, b"ids") {
+        show(path, StreamKind::Ids);
+    } else {
+        show(path, StreamKind::Types);
+    }
 }
 
 fn pair(i: usize)

@@ -28,12 +28,12 @@ use Rattle.wire.specs.declared.name.Name.{Name}
 use Rattle.streams.specs.declared.refusal.Refusal.{Refusal}
 use Rattle.rules.specs.Text.{decimal}
 use Rattle.rules.specs.Record.{nameAt}
-use Rattle.streams.specs.Stream.{checked}
 use Rattle.streams.specs.declared.refusal.StreamKind.the-variants.{Types, Ids}
 use Rattle.streams.specs.declared.refusal.Refusal.the-variants.{UnknownCommand, Missing, CircularTypeDefinition, TooManyOpen, ChainTooLong, NoRoom}
-use Rattle.streams.specs.declared.stream.StreamCheck.{StreamCheck}
 use Rattle.rules.specs.Call.{functionOutcome, idOutcome, typeOutcome, sizeOutcome}
 use Rattle.checked_calls.specs.Checks.{ofSizeAnswer, functionOver, idOver, typeOver, sizeOver}
+use Rattle.rules.specs.Places.{Near}
+use Rattle.checked_calls.specs.Kept.{KeptOf}
 use Rattle.checked_calls.proofs.CallsLaws.{function-over, id-over, type-over, size-over}
 use Rattle.checked_calls.specs.declared.calls.SizeAnswer.{SizeAnswer}
 use Rattle.checked_calls.specs.declared.calls.SizeAnswer.the-variants as sized
@@ -512,21 +512,20 @@ whole-as e w = rw e at w
 pub whole-none : {buf m : List ℕ} → [] ≡ m → Whole buf m buf 0
 whole-none e = whole-as e (record { length-is = refl; buffer-is = refl })
 
--- What the calls answer, the streams being checked, in a text buffer of 4,096 bytes.
-module _ (types : List ℕ) {t : StreamCheck} (e : t ≡ checked Types types) where
+-- What the calls answer over what is kept of the checks, in a text buffer of 4,096 bytes.
+module _ (types : List ℕ) {v : Near} (e : KeptOf Types types v) where
   pub function-outcome : (sheet : List ℕ) (at flags size i : ℕ) {name : List ℕ} {room : ℕ} → name ≡ givenName sheet at → room ≡ 4096
-      → functionOver t flags size types name i room ≡ functionOutcome flags size types (givenName sheet at) i 4096
-  function-outcome sheet at flags size i f g = rw (e, f, g) (function-over types (givenName sheet at) flags size i 4096)
+      → functionOver types v flags size name i room ≡ functionOutcome flags size types (givenName sheet at) i 4096
+  function-outcome sheet at flags size i f g = rw (f, g) (function-over types v e (givenName sheet at) flags size i 4096)
 
-  pub type-outcome : (flags size i : ℕ) {room : ℕ} → room ≡ 4096 → typeOver t flags size types i room ≡ typeOutcome flags size types i 4096
-  type-outcome flags size i g = rw (e, g) (type-over types flags size i 4096)
+  pub type-outcome : (flags size i : ℕ) {room : ℕ} → room ≡ 4096 → typeOver types v flags size i room ≡ typeOutcome flags size types i 4096
+  type-outcome flags size i g = rw g (type-over types v e flags size i 4096)
 
-  pub id-outcome : (ids : List ℕ) {u : StreamCheck} → u ≡ checked Ids ids → (flags size i : ℕ) {room : ℕ} → room ≡ 4096
-      → idOver t u flags size types ids i room ≡ idOutcome flags size types ids i 4096
-  id-outcome ids f flags size i g = rw (e, f, g) (id-over types ids flags size i 4096)
+  pub id-outcome : (ids : List ℕ) → KeptOf Ids ids v → (flags size i : ℕ) {room : ℕ} → room ≡ 4096 → idOver types ids v flags size i room ≡ idOutcome flags size types ids i 4096
+  id-outcome ids f flags size i g = rw g (id-over types v e ids f flags size i 4096)
 
-  pub size-outcome : (size i : ℕ) (a : SizeAnswer) → ofSizeAnswer a ≡ call.ofSize (sizeOver t size types i) → ofSizeAnswer a ≡ call.ofSize (sizeOutcome size types i)
-  size-outcome size i a f = f ∙ ap call.ofSize (rw e (size-over types size i))
+  pub size-outcome : (size i : ℕ) (a : SizeAnswer) → ofSizeAnswer a ≡ call.ofSize (sizeOver types v size i) → ofSizeAnswer a ≡ call.ofSize (sizeOutcome size types i)
+  size-outcome size i a f = f ∙ ap call.ofSize (size-over types v e size i)
 
 -- The line of each kind of command.
 module _ (types ids sheet : List ℕ) (s : State) (c : Command) where

@@ -4,7 +4,8 @@ ghost use mathlib.Core.List.{_++_};
 ghost use Prim.Native.Nat.{_+_, _-_, _≤_, _<_};
 ghost use lib.Dec.{ltb};
 ghost use lib.ListN.{length};
-ghost use Rattle.streams.specs.Stream.{checked};
+ghost use Rattle.rules.specs.Places.{near};
+ghost use Rattle.checked_calls.specs.Kept.{KeptOf};
 ghost use Rattle.streams.specs.declared.refusal.StreamKind.the-variants.{Types, Ids};
 ghost use Rattle.sheet.specs.Command.{givenName};
 ghost use Rattle.pen.specs.Page.{page};
@@ -26,14 +27,12 @@ use checked_calls::calls::function_over;
 use checked_calls::calls::id_over;
 use checked_calls::calls::size_over;
 use checked_calls::calls::type_over;
+use checked_calls::kept::keep_both;
 use codeview::index::IdIndex;
 use codeview::index::TypeIndex;
 use leaf_writers::names::name_of;
 use pen::Pen;
 use streams::refusal::Refusal;
-use streams::refusal::StreamKind;
-use streams::stream::StreamCheck;
-use streams::stream::check_stream;
 use wire::name::Name;
 
 pub mod command;
@@ -204,17 +203,27 @@ fn given_name<'a>(sheet: &'a [u8], at: usize) -> &'a [u8]
 fn function_line(
     types: &[u8],
     sheet: &[u8],
-    t: StreamCheck,
+    bounds: &[u32],
+    places: &[u32],
     line: &mut [u8],
     text: &mut [u8],
     s: State,
     index: u32,
 ) -> usize
-    requires { ⌜ (t ≡ checked Types (now types)) × ((4150 ≤ length (now line)) × ((length (now text) ≡ 4096) × Countable s)) ⌝ }
+    requires { ⌜ KeptOf Types (now types) (near (now bounds) (now places)) × ((4150 ≤ length (now line)) × ((length (now text) ≡ 4096) × Countable s)) ⌝ }
     ensures { λ r. ⌜ Whole (now (line .entry)) (functionLine (now (types .entry)) (now (sheet .entry)) s index) (now (line .exit)) r ⌝ }
 {
     let name = given_name(sheet, s.at + 5);
-    let a = function_over(types, t, text, s.flags, s.size, name, TypeIndex(index));
+    let a = function_over(
+        types,
+        bounds,
+        places,
+        text,
+        s.flags,
+        s.size,
+        name,
+        TypeIndex(index),
+    );
     write_answer(line, (s.lines + 1) as u64, a, text)
 }
 
@@ -223,28 +232,41 @@ fn line_of(
     types: &[u8],
     ids: &[u8],
     sheet: &[u8],
-    t: StreamCheck,
-    u: StreamCheck,
+    bounds: &[u32],
+    places: &[u32],
     line: &mut [u8],
     text: &mut [u8],
     s: State,
     c: Command,
 ) -> usize
-    requires { ⌜ (t ≡ checked Types (now types)) × ((u ≡ checked Ids (now ids)) × ((4150 ≤ length (now line)) × ((length (now text) ≡ 4096) × Countable s))) ⌝ }
+    requires { ⌜ KeptOf Types (now types) (near (now bounds) (now places)) × (KeptOf Ids (now ids) (near (now bounds) (now places)) × ((4150 ≤ length (now line)) × ((length (now text) ≡ 4096) × Countable s))) ⌝ }
     ensures { λ r. ⌜ Whole (now (line .entry)) (lineOf (now (types .entry)) (now (ids .entry)) (now (sheet .entry)) s c) (now (line .exit)) r ⌝ }
 {
     let number = (s.lines + 1) as u64;
     match c {
         Command::TypeText(i) => {
-            let a = type_over(types, t, text, s.flags, s.size, TypeIndex(i));
+            let a = type_over(types, bounds, places, text, s.flags, s.size, TypeIndex(i));
             write_answer(line, number, a, text)
         }
         Command::IdText(i) => {
-            let a = id_over(types, ids, t, u, text, s.flags, s.size, IdIndex(i));
+            let a = id_over(
+                types,
+                ids,
+                bounds,
+                places,
+                text,
+                s.flags,
+                s.size,
+                IdIndex(i),
+            );
             write_answer(line, number, a, text)
         }
-        Command::FunctionText(i) => function_line(types, sheet, t, line, text, s, i),
-        Command::TypeSize(i) => write_size(line, number, size_over(types, t, s.size, TypeIndex(i))),
+        Command::FunctionText(i) => function_line(types, sheet, bounds, places, line, text, s, i),
+        Command::TypeSize(i) => write_size(
+            line,
+            number,
+            size_over(types, bounds, places, s.size, TypeIndex(i)),
+        ),
         Command::Faulty(b) => write_refused(line, number, Refusal::UnknownCommand(b)),
         Command::End => 0,
         Command::Flags(n) => 0,
@@ -257,8 +279,8 @@ fn put_line(
     types: &[u8],
     ids: &[u8],
     sheet: &[u8],
-    t: StreamCheck,
-    u: StreamCheck,
+    bounds: &[u32],
+    places: &[u32],
     line: &mut [u8],
     text: &mut [u8],
     out: &mut [u8],
@@ -267,7 +289,7 @@ fn put_line(
     c: Command,
     skip: usize,
 ) -> Put
-    requires { ⌜ (t ≡ checked Types (now types)) × ((u ≡ checked Ids (now ids)) × ((4150 ≤ length (now line)) × ((length (now text) ≡ 4096) × ((p .at ≤ length (now out)) × Countable s)))) ⌝ }
+    requires { ⌜ KeptOf Types (now types) (near (now bounds) (now places)) × (KeptOf Ids (now ids) (near (now bounds) (now places)) × ((4150 ≤ length (now line)) × ((length (now text) ≡ 4096) × ((p .at ≤ length (now out)) × Countable s)))) ⌝ }
     ensures { λ r. ⌜ placedOn (page (now (out .exit)) (r .pen)) (r .full) ≡ putOf (page (now (out .entry)) p) (ltb (s .lines) skip) (lineOf (now (types .entry)) (now (ids .entry)) (now (sheet .entry)) s c) ⌝ }
 {
     if s.lines < skip {
@@ -276,7 +298,7 @@ fn put_line(
             full: false,
         };
     }
-    let n = line_of(types, ids, sheet, t, u, line, text, s, c);
+    let n = line_of(types, ids, sheet, bounds, places, line, text, s, c);
     if n > out.len() - p.at {
         return Put { pen: p, full: true };
     }
@@ -303,14 +325,14 @@ fn put_lines(
     types: &[u8],
     ids: &[u8],
     sheet: &[u8],
-    t: StreamCheck,
-    u: StreamCheck,
+    bounds: &[u32],
+    places: &[u32],
     line: &mut [u8],
     text: &mut [u8],
     out: &mut [u8],
     skip: usize,
 ) -> Printed
-    requires { ⌜ (t ≡ checked Types (now types)) × ((u ≡ checked Ids (now ids)) × ((4150 ≤ length (now line)) × (length (now text) ≡ 4096))) ⌝ }
+    requires { ⌜ KeptOf Types (now types) (near (now bounds) (now places)) × (KeptOf Ids (now ids) (near (now bounds) (now places)) × ((4150 ≤ length (now line)) × (length (now text) ≡ 4096))) ⌝ }
     ensures { λ r. ⌜ shown (now (out .exit)) r ≡ laidOut (now (out .entry)) (sheetFit (now (types .entry)) (now (ids .entry)) (now (sheet .entry)) skip (length (now (out .entry)))) ⌝ }
 {
     let mut p = start(out.len());
@@ -321,14 +343,40 @@ fn put_lines(
             Step::Over => return done(p, s.lines, skip, false),
             Step::Setting => s = after(s, c),
             Step::Last => {
-                let q = put_line(types, ids, sheet, t, u, line, text, out, p, s, c, skip);
+                let q = put_line(
+                    types,
+                    ids,
+                    sheet,
+                    bounds,
+                    places,
+                    line,
+                    text,
+                    out,
+                    p,
+                    s,
+                    c,
+                    skip,
+                );
                 if q.full {
                     return done(q.pen, s.lines, skip, true);
                 }
                 return done(q.pen, s.lines + 1, skip, false);
             }
             Step::Line => {
-                let q = put_line(types, ids, sheet, t, u, line, text, out, p, s, c, skip);
+                let q = put_line(
+                    types,
+                    ids,
+                    sheet,
+                    bounds,
+                    places,
+                    line,
+                    text,
+                    out,
+                    p,
+                    s,
+                    c,
+                    skip,
+                );
                 if q.full {
                     return done(q.pen, s.lines, skip, true);
                 }
@@ -345,9 +393,19 @@ pub fn print_sheet(types: &[u8], ids: &[u8], sheet: &[u8], out: &mut [u8], skip:
     ensures { λ r. ⌜ shown (now (out .exit)) r ≡ laidOut (now (out .entry)) (sheetFit (now (types .entry)) (now (ids .entry)) (now (sheet .entry)) skip (length (now (out .entry)))) ⌝ }
     ensures { λ _. ⌜ SheetContinues (now (types .entry)) (now (ids .entry)) (now (sheet .entry)) skip (length (now (out .entry))) ⌝ }
 {
-    let t = check_stream(types, StreamKind::Types);
-    let u = check_stream(ids, StreamKind::Ids);
+    let mut places = [0u32; 1024];
+    let bounds = keep_both(types, ids, 0, &mut places, 512);
     let mut line = [0u8; 4160];
     let mut text = [0u8; 4096];
-    put_lines(types, ids, sheet, t, u, &mut line, &mut text, out, skip)
+    put_lines(
+        types,
+        ids,
+        sheet,
+        &bounds,
+        &places,
+        &mut line,
+        &mut text,
+        out,
+        skip,
+    )
 }

@@ -6,6 +6,7 @@ use codeview::index::IdIndex;
 use codeview::index::TypeIndex;
 use files::say;
 use libc::STDOUT_FILENO;
+use streams::chains::check_stream;
 use streams::refusal::Refusal;
 use streams::refusal::StreamKind;
 use streams::stream::StreamCheck;
@@ -91,14 +92,20 @@ fn lines(types: &[u8], ids: &[u8], call: Call, flags: u32, first: u32, end: u32)
 }
 
 fn all_types(types: &[u8], call: Call, flags: u32) {
-    match streams::stream::check_stream(types, StreamKind::Types) {
+    let mut places = [0u32; 1];
+    let a = check_stream(types, StreamKind::Types, &mut places);
+    let c = a.check;
+    match c {
         StreamCheck::Good(stream) => lines(types, b"", call, flags, stream.first, stream.end),
         StreamCheck::Refused(_) => say(b"types refused\n"),
     }
 }
 
 fn all_ids(types: &[u8], ids: &[u8], flags: u32) {
-    match streams::stream::check_stream(ids, StreamKind::Ids) {
+    let mut places = [0u32; 1];
+    let a = check_stream(ids, StreamKind::Ids, &mut places);
+    let c = a.check;
+    match c {
         StreamCheck::Good(stream) => lines(types, ids, Call::Id, flags, stream.first, stream.end),
         StreamCheck::Refused(_) => say(b"ids refused\n"),
     }

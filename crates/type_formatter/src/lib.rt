@@ -1,4 +1,5 @@
-// The four calls: the text of a function, of an id and of a type, and the size of a type. Each checks its streams; `checked_calls` does the rest.
+// The four calls: the text of a function, of an id and of a type, and the size of a type. Each checks its streams and notes places of their records;
+// `checked_calls` does the rest.
 ghost use mathlib.Core.Path.{_≡_};
 ghost use lib.ListN.{length};
 ghost use Rattle.rules.specs.Call.{functionOutcome, FunctionDemand, idOutcome, IdDemand, typeOutcome, TypeDemand, sizeOutcome, ofSize, SizeFinished};
@@ -10,10 +11,12 @@ use checked_calls::calls::function_over;
 use checked_calls::calls::id_over;
 use checked_calls::calls::size_over;
 use checked_calls::calls::type_over;
+use checked_calls::kept::keep_both;
+use checked_calls::kept::keep_types;
 use codeview::index::IdIndex;
 use codeview::index::TypeIndex;
-use streams::refusal::StreamKind;
-use streams::stream::check_stream;
+
+pub mod checked;
 
 // The text of a function, by its name and type.
 pub fn format_function(
@@ -27,8 +30,9 @@ pub fn format_function(
     ensures { λ r. ⌜ given (now (out .exit)) r ≡ laid (now (out .entry)) (functionOutcome flags size (now (types .entry)) (now (name .entry)) (index .0) (length (now (out .entry)))) ⌝ }
     ensures { λ _. ⌜ FunctionDemand flags size (now (types .entry)) (now (name .entry)) (index .0) ⌝ }
 {
-    let t = check_stream(types, StreamKind::Types);
-    function_over(types, t, out, flags, size, name, index)
+    let mut places = [0u32; 256];
+    let bounds = keep_types(types, &mut places);
+    function_over(types, &bounds, &places, out, flags, size, name, index)
 }
 
 // The text of an id.
@@ -43,9 +47,9 @@ pub fn format_id(
     ensures { λ r. ⌜ given (now (out .exit)) r ≡ laid (now (out .entry)) (idOutcome flags size (now (types .entry)) (now (ids .entry)) (index .0) (length (now (out .entry)))) ⌝ }
     ensures { λ _. ⌜ IdDemand flags size (now (types .entry)) (now (ids .entry)) (index .0) ⌝ }
 {
-    let t = check_stream(types, StreamKind::Types);
-    let u = check_stream(ids, StreamKind::Ids);
-    id_over(types, ids, t, u, out, flags, size, index)
+    let mut places = [0u32; 512];
+    let bounds = keep_both(types, ids, 0, &mut places, 256);
+    id_over(types, ids, &bounds, &places, out, flags, size, index)
 }
 
 // The text of a type.
@@ -53,8 +57,9 @@ pub fn format_type(types: &[u8], out: &mut [u8], flags: u32, size: u32, index: T
     ensures { λ r. ⌜ given (now (out .exit)) r ≡ laid (now (out .entry)) (typeOutcome flags size (now (types .entry)) (index .0) (length (now (out .entry)))) ⌝ }
     ensures { λ _. ⌜ TypeDemand flags size (now (types .entry)) (index .0) ⌝ }
 {
-    let t = check_stream(types, StreamKind::Types);
-    type_over(types, t, out, flags, size, index)
+    let mut places = [0u32; 256];
+    let bounds = keep_types(types, &mut places);
+    type_over(types, &bounds, &places, out, flags, size, index)
 }
 
 // The size of a type; this call takes no flags.
@@ -62,6 +67,7 @@ pub fn get_type_size(types: &[u8], size: u32, index: TypeIndex) -> SizeAnswer
     ensures { λ r. ⌜ ofSizeAnswer r ≡ ofSize (sizeOutcome size (now (types .entry)) (index .0)) ⌝ }
     ensures { λ _. ⌜ SizeFinished size (now (types .entry)) (index .0) ⌝ }
 {
-    let t = check_stream(types, StreamKind::Types);
-    size_over(types, t, size, index)
+    let mut places = [0u32; 256];
+    let bounds = keep_types(types, &mut places);
+    size_over(types, &bounds, &places, size, index)
 }

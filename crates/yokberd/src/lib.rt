@@ -4,7 +4,9 @@ ghost use mathlib.Core.Path.{_≡_};
 ghost use lib.ListN.{length};
 ghost use Rattle.rules.specs.Call.{functionOutcome, FunctionDemand, idOutcome, IdDemand, typeOutcome, TypeDemand, sizeOutcome, SizeFinished, report, ofSize};
 ghost use Rattle.checked_calls.specs.Answers.{left, ofAnswer, laid};
-ghost use Rattle.checked_calls.specs.Checks.{ofSizeAnswer};
+ghost use Rattle.streams.specs.declared.refusal.StreamKind.the-variants.{Types};
+ghost use Rattle.checked_calls.specs.Checks.{functionOver, idOver, typeOver, sizeOver, ofSizeAnswer};
+ghost use Rattle.checked_calls.specs.Kept.{KeptOf, Kept, keptIn, serving, Filled};
 ghost use Rattle.sheet.specs.Sheet.{sheetFit};
 ghost use Rattle.sheet.specs.Printed.{laidOut, SheetContinues};
 ghost use Rattle.yokberd.specs.Report.{counts, ofFit};
@@ -13,6 +15,8 @@ use checked_calls::calls::SizeAnswer;
 use codeview::index::IdIndex;
 use codeview::index::TypeIndex;
 use sheet::print_sheet;
+use type_formatter::checked;
+use type_formatter::checked::check_streams;
 use type_formatter::format_function;
 use type_formatter::format_id;
 use type_formatter::format_type;
@@ -121,6 +125,96 @@ pub extern "C" fn yokberd_get_type_size(
     ensures { λ _. ⌜ SizeFinished size (now (types .entry)) index ⌝ }
 {
     let a = get_type_size(types, size, TypeIndex(index));
+    report_size(a, detail, bytes)
+}
+
+// Checks both streams once, and leaves in a buffer what the four calls below go by: how many numbers of it serve.
+#[no_mangle]
+pub extern "C" fn yokberd_check_streams(
+    types: &[u8],
+    ids: &[u8],
+    stride: u32,
+    checked: &mut [u32],
+) -> usize
+    ensures { λ r. ⌜ r ≡ serving stride (now (types .entry)) (now (ids .entry)) ⌝ }
+    ensures { λ _. ⌜ Filled (now (types .entry)) (now (ids .entry)) (now (checked .entry)) (now (checked .exit)) ⌝ }
+{
+    check_streams(types, ids, stride, checked)
+}
+
+// The text of a function over streams that were checked before.
+#[no_mangle]
+pub extern "C" fn yokberd_checked_format_function(
+    types: &[u8],
+    checked: &[u32],
+    out: &mut [u8],
+    flags: u32,
+    size: u32,
+    name: &[u8],
+    index: u32,
+    detail: &mut u32,
+    written: &mut usize,
+) -> u32
+    ensures { λ r. ⌜ left (now (out .exit)) (report r (now (detail .exit)) (now (written .exit))) ≡ laid (now (out .entry)) (functionOver (now (types .entry)) (keptIn (now (checked .entry))) flags size (now (name .entry)) index (length (now (out .entry)))) ⌝ }
+    ensures { λ r. ⌜ (KeptOf Types (now (types .entry)) (keptIn (now (checked .entry))) → left (now (out .exit)) (report r (now (detail .exit)) (now (written .exit))) ≡ laid (now (out .entry)) (functionOutcome flags size (now (types .entry)) (now (name .entry)) index (length (now (out .entry))))) ⌝ }
+{
+    let a = checked::format_function(types, checked, out, flags, size, name, TypeIndex(index));
+    report_text(a, detail, written)
+}
+
+// The text of an id.
+#[no_mangle]
+pub extern "C" fn yokberd_checked_format_id(
+    types: &[u8],
+    ids: &[u8],
+    checked: &[u32],
+    out: &mut [u8],
+    flags: u32,
+    size: u32,
+    index: u32,
+    detail: &mut u32,
+    written: &mut usize,
+) -> u32
+    ensures { λ r. ⌜ left (now (out .exit)) (report r (now (detail .exit)) (now (written .exit))) ≡ laid (now (out .entry)) (idOver (now (types .entry)) (now (ids .entry)) (keptIn (now (checked .entry))) flags size index (length (now (out .entry)))) ⌝ }
+    ensures { λ r. ⌜ (Kept (now (types .entry)) (now (ids .entry)) (keptIn (now (checked .entry))) → left (now (out .exit)) (report r (now (detail .exit)) (now (written .exit))) ≡ laid (now (out .entry)) (idOutcome flags size (now (types .entry)) (now (ids .entry)) index (length (now (out .entry))))) ⌝ }
+{
+    let a = checked::format_id(types, ids, checked, out, flags, size, IdIndex(index));
+    report_text(a, detail, written)
+}
+
+// The text of a type.
+#[no_mangle]
+pub extern "C" fn yokberd_checked_format_type(
+    types: &[u8],
+    checked: &[u32],
+    out: &mut [u8],
+    flags: u32,
+    size: u32,
+    index: u32,
+    detail: &mut u32,
+    written: &mut usize,
+) -> u32
+    ensures { λ r. ⌜ left (now (out .exit)) (report r (now (detail .exit)) (now (written .exit))) ≡ laid (now (out .entry)) (typeOver (now (types .entry)) (keptIn (now (checked .entry))) flags size index (length (now (out .entry)))) ⌝ }
+    ensures { λ r. ⌜ (KeptOf Types (now (types .entry)) (keptIn (now (checked .entry))) → left (now (out .exit)) (report r (now (detail .exit)) (now (written .exit))) ≡ laid (now (out .entry)) (typeOutcome flags size (now (types .entry)) index (length (now (out .entry))))) ⌝ }
+{
+    let a = checked::format_type(types, checked, out, flags, size, TypeIndex(index));
+    report_text(a, detail, written)
+}
+
+// The size of a type; this call takes no flags.
+#[no_mangle]
+pub extern "C" fn yokberd_checked_get_type_size(
+    types: &[u8],
+    checked: &[u32],
+    size: u32,
+    index: u32,
+    detail: &mut u32,
+    bytes: &mut u64,
+) -> u32
+    ensures { λ r. ⌜ report r (now (detail .exit)) (now (bytes .exit)) ≡ ofSize (sizeOver (now (types .entry)) (keptIn (now (checked .entry))) size index) ⌝ }
+    ensures { λ r. ⌜ (KeptOf Types (now (types .entry)) (keptIn (now (checked .entry))) → report r (now (detail .exit)) (now (bytes .exit)) ≡ ofSize (sizeOutcome size (now (types .entry)) index)) ⌝ }
+{
+    let a = checked::get_type_size(types, checked, size, TypeIndex(index));
     report_size(a, detail, bytes)
 }
 

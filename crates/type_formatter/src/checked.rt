@@ -1,0 +1,203 @@
+// Streams checked once: a check of both streams that fills a buffer of the caller's, and the four calls over what it left there. The calls take any numbers.
+ghost use mathlib.Core.Path.{_≡_};
+ghost use mathlib.Core.List.{_++_};
+ghost use Prim.Native.Nat.{_-_, _/_, _≤_, min};
+ghost use lib.ListN.{length, take, drop, replicate};
+ghost use Rattle.streams.specs.declared.refusal.StreamKind.the-variants.{Types, Ids};
+ghost use Rattle.rules.specs.Call.{functionOutcome, idOutcome, typeOutcome, sizeOutcome, ofSize};
+ghost use Rattle.checked_calls.specs.Answers.{given, laid};
+ghost use Rattle.checked_calls.specs.Checks.{functionOver, idOver, typeOver, sizeOver, ofSizeAnswer};
+ghost use Rattle.checked_calls.specs.Kept.{KeptOf, Kept, keptIn, recordCount, placesFor, serving, Filled};
+use checked_calls::answer::Answer;
+use checked_calls::calls::SizeAnswer;
+use checked_calls::calls::function_over;
+use checked_calls::calls::id_over;
+use checked_calls::calls::size_over;
+use checked_calls::calls::type_over;
+use checked_calls::kept::keep_both;
+use codeview::index::IdIndex;
+use codeview::index::TypeIndex;
+use streams::places::wide;
+use streams::stream::Head;
+use streams::stream::header_of;
+use streams::stream::shorter;
+
+fn record_count(s: &[u8]) -> u32
+    ensures { λ r. ⌜ r ≡ recordCount (now (s .entry)) ⌝ }
+{
+    match header_of(s) {
+        Head::Good(first, end, _) => end - first,
+        Head::Broken => 0,
+    }
+}
+
+fn places_for(stride: u32, n: u32) -> usize
+    ensures { λ r. ⌜ r ≡ placesFor stride n ⌝ }
+{
+    if stride == 0 {
+        return 0;
+    }
+    (wide(n) + (wide(stride) - 1)) / wide(stride)
+}
+
+fn clear_numbers(checked: &mut [u32])
+    ensures { λ _. ⌜ now (checked .exit) ≡ replicate (length (now (checked .entry))) 0 ⌝ }
+{
+    let mut i = 0;
+    while i < checked.len() {
+        checked[i] = 0;
+        i += 1;
+    }
+}
+
+fn store(checked: &mut [u32], bounds: [u32; 19])
+    requires { ⌜ (19 ≤ length (now checked)) × (length bounds ≡ 19) ⌝ }
+    ensures { λ _. ⌜ now (checked .exit) ≡ bounds ++ drop 19 (now (checked .entry)) ⌝ }
+{
+    let mut i = 0;
+    while i < 19 {
+        checked[i] = bounds[i];
+        i += 1;
+    }
+}
+
+// How many of so many places the types get: what they need; and half, where the stride is one that suits.
+fn split_for(stride: u32, needed: usize, room: usize) -> usize
+    ensures { λ r. ⌜ r ≤ room ⌝ }
+{
+    if stride == 0 {
+        return room / 2;
+    }
+    shorter(needed, room)
+}
+
+fn keep_in(types: &[u8], ids: &[u8], stride: u32, needed: usize, checked: &mut [u32])
+    requires { ⌜ (19 ≤ length (now checked)) × (length (now checked) ≤ 0xffff_ffff) ⌝ }
+    ensures { λ _. ⌜ Kept (now (types .entry)) (now (ids .entry)) (keptIn (now (checked .exit))) ⌝ }
+{
+    let split = split_for(stride, needed, checked.len() - 19);
+    let bounds = keep_both(types, ids, stride, &mut checked[19..], split);
+    store(checked, bounds);
+}
+
+// Checks both streams, and leaves in the buffer what the calls below go by. Answers how many numbers of the buffer serve; with fewer the calls answer the
+// same, in more time, as long as there are 19. A buffer with fewer than 19 numbers, or more than 2^32 - 1, is filled with zeros: nothing is kept.
+pub fn check_streams(types: &[u8], ids: &[u8], stride: u32, checked: &mut [u32]) -> usize
+    ensures { λ r. ⌜ r ≡ serving stride (now (types .entry)) (now (ids .entry)) ⌝ }
+    ensures { λ _. ⌜ Filled (now (types .entry)) (now (ids .entry)) (now (checked .entry)) (now (checked .exit)) ⌝ }
+{
+    let needed = places_for(stride, record_count(types));
+    let all = 19 + (needed + places_for(stride, record_count(ids)));
+    if checked.len() < 19 {
+        clear_numbers(checked);
+        return all;
+    }
+    if 0xffff_ffff < checked.len() {
+        clear_numbers(checked);
+        return all;
+    }
+    keep_in(types, ids, stride, needed, checked);
+    all
+}
+
+// The numbers at the start of a buffer, and the places behind them.
+fn numbers_of<'a>(checked: &'a [u32]) -> &'a [u32]
+    ensures { λ r. ⌜ now (r) ≡ take 19 (now (checked .entry)) ⌝ }
+{
+    let n = shorter(19, checked.len());
+    &checked[..n]
+}
+
+fn places_behind<'a>(checked: &'a [u32]) -> &'a [u32]
+    ensures { λ r. ⌜ now (r) ≡ drop 19 (now (checked .entry)) ⌝ }
+{
+    let n = shorter(19, checked.len());
+    &checked[n..]
+}
+
+// The text of a function, by its name and type.
+pub fn format_function(
+    types: &[u8],
+    checked: &[u32],
+    out: &mut [u8],
+    flags: u32,
+    size: u32,
+    name: &[u8],
+    index: TypeIndex,
+) -> Answer
+    ensures { λ r. ⌜ given (now (out .exit)) r ≡ laid (now (out .entry)) (functionOver (now (types .entry)) (keptIn (now (checked .entry))) flags size (now (name .entry)) (index .0) (length (now (out .entry)))) ⌝ }
+    ensures { λ r. ⌜ (KeptOf Types (now (types .entry)) (keptIn (now (checked .entry))) → given (now (out .exit)) r ≡ laid (now (out .entry)) (functionOutcome flags size (now (types .entry)) (now (name .entry)) (index .0) (length (now (out .entry))))) ⌝ }
+{
+    function_over(
+        types,
+        numbers_of(checked),
+        places_behind(checked),
+        out,
+        flags,
+        size,
+        name,
+        index,
+    )
+}
+
+// The text of an id.
+pub fn format_id(
+    types: &[u8],
+    ids: &[u8],
+    checked: &[u32],
+    out: &mut [u8],
+    flags: u32,
+    size: u32,
+    index: IdIndex,
+) -> Answer
+    ensures { λ r. ⌜ given (now (out .exit)) r ≡ laid (now (out .entry)) (idOver (now (types .entry)) (now (ids .entry)) (keptIn (now (checked .entry))) flags size (index .0) (length (now (out .entry)))) ⌝ }
+    ensures { λ r. ⌜ (Kept (now (types .entry)) (now (ids .entry)) (keptIn (now (checked .entry))) → given (now (out .exit)) r ≡ laid (now (out .entry)) (idOutcome flags size (now (types .entry)) (now (ids .entry)) (index .0) (length (now (out .entry))))) ⌝ }
+{
+    id_over(
+        types,
+        ids,
+        numbers_of(checked),
+        places_behind(checked),
+        out,
+        flags,
+        size,
+        index,
+    )
+}
+
+// The text of a type.
+pub fn format_type(
+    types: &[u8],
+    checked: &[u32],
+    out: &mut [u8],
+    flags: u32,
+    size: u32,
+    index: TypeIndex,
+) -> Answer
+    ensures { λ r. ⌜ given (now (out .exit)) r ≡ laid (now (out .entry)) (typeOver (now (types .entry)) (keptIn (now (checked .entry))) flags size (index .0) (length (now (out .entry)))) ⌝ }
+    ensures { λ r. ⌜ (KeptOf Types (now (types .entry)) (keptIn (now (checked .entry))) → given (now (out .exit)) r ≡ laid (now (out .entry)) (typeOutcome flags size (now (types .entry)) (index .0) (length (now (out .entry))))) ⌝ }
+{
+    type_over(
+        types,
+        numbers_of(checked),
+        places_behind(checked),
+        out,
+        flags,
+        size,
+        index,
+    )
+}
+
+// The size of a type; this call takes no flags.
+pub fn get_type_size(types: &[u8], checked: &[u32], size: u32, index: TypeIndex) -> SizeAnswer
+    ensures { λ r. ⌜ ofSizeAnswer r ≡ ofSize (sizeOver (now (types .entry)) (keptIn (now (checked .entry))) size (index .0)) ⌝ }
+    ensures { λ r. ⌜ (KeptOf Types (now (types .entry)) (keptIn (now (checked .entry))) → ofSizeAnswer r ≡ ofSize (sizeOutcome size (now (types .entry)) (index .0))) ⌝ }
+{
+    size_over(
+        types,
+        numbers_of(checked),
+        places_behind(checked),
+        size,
+        index,
+    )
+}
