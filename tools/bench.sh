@@ -1,5 +1,6 @@
 #!/bin/sh
-# Prints the time and the stack of the calls as Markdown tables, with the machine that they were taken on: rust/benches/calls.rs. About half a minute.
+# Prints the time of the calls side by side with the original's, and their stack, as Markdown tables, with the machine that they were taken on:
+# rust/benches/calls. Some minutes.
 #
 #     rt staticlib yokberd && tools/bench.sh
 #

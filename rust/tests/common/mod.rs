@@ -1,6 +1,8 @@
 //! Streams for the tests and the benchmark: records as cvinfo.h lays them out, random streams, and damage.
 #![allow(dead_code)]
 
+pub mod plain;
+
 use std::fs;
 use std::path::PathBuf;
 
@@ -293,6 +295,21 @@ pub fn hostile_streams(rng: &mut Rng, case: usize) -> Streams {
 /// A folder of this repository.
 pub fn folder(path: &str) -> PathBuf {
     PathBuf::from(env!("CARGO_MANIFEST_DIR")).join("..").join(path)
+}
+
+/// The kinds of records that the original writes as debug text.
+pub const UNHANDLED: [u16; 6] = [0x1203, 0x1205, 0x1206, 0x1603, 0x1606, 0x1607];
+
+/// The kind of each record of a well-formed stream.
+pub fn record_kinds(stream: &[u8]) -> Vec<u16> {
+    let half = |at: usize| u16::from_le_bytes([stream[at], stream[at + 1]]);
+    let mut kinds = Vec::new();
+    let mut at = 56;
+    for _ in 0..record_count(stream) {
+        kinds.push(half(at + 2));
+        at += 2 + usize::from(half(at));
+    }
+    kinds
 }
 
 fn record_count(stream: &[u8]) -> u32 {

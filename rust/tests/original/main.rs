@@ -3,13 +3,13 @@
 //! What is compared is what document 01 calls the compared domain: a fresh formatter for each call, no string table, well-formed records of the kinds that
 //! are read, UTF-8 names, each full name defined once and behind its forward references, no limit met. The layouts of records are not compared, since the
 //! stand-in for the crate `pdb` is ours.
+mod asked;
 #[path = "../common/mod.rs"]
 mod common;
 mod error;
 #[allow(dead_code)]
 mod pdb_stand_in;
 mod range_collections_stand_in;
-#[path = "../../../docs/src/type_formatter.rs"]
 #[allow(dead_code, unreachable_patterns, clippy::all)]
 #[rustfmt::skip]
 mod type_formatter;
@@ -20,66 +20,9 @@ extern crate self as range_collections;
 pub use pdb_stand_in::*;
 pub use range_collections_stand_in::{range_set, RangeSet, RangeSet2};
 
-use common::{case_count, real_streams, Call, Rng, Streams, FIRST};
-use std::marker::PhantomData;
-use type_formatter::{ModuleProvider, TypeFormatter, TypeFormatterFlags};
-
-struct NoModules;
-
-impl<'s> ModuleProvider<'s> for NoModules {
-    fn get_module_info(&self, _: usize, _: &Module) -> Result<Option<&ModuleInfo<'s>>, Error> {
-        Ok(None)
-    }
-}
-
-// A text or size, or the kind of an error, by the number of the refusal that document 01 compares it with. Where the original's error has an index or a
-// kind, it is compared with the detail.
-type Answer = Result<String, (u32, u32)>;
-
-fn kind(error: error::Error) -> (u32, u32) {
-    match error {
-        error::Error::PdbError(Error::UnimplementedTypeKind(kind)) => (7, kind.into()),
-        error::Error::PdbError(Error::TypeNotFound(index)) => (8, index),
-        error::Error::PdbError(_) => (5, 0),
-        error::Error::CantResolveCrossModuleRefWithoutStringTable => (6, 0),
-        error::Error::ArgumentTypeNotArgumentList => (9, 0),
-        error::Error::FunctionIdIsNotProcedureType => (10, 0),
-        error::Error::MemberFunctionIdIsNotMemberFunctionType => (11, 0),
-        error::Error::CircularTypeDefinition(index) => (12, index),
-        other => panic!("an error outside the compared domain: {other:?}"),
-    }
-}
-
-fn refusal(error: yokberd::Error) -> (u32, u32) {
-    match error.number() {
-        number @ (7 | 8 | 12) => (number, error.detail()),
-        number => (number, 0),
-    }
-}
-
-struct Original<'a> {
-    types: TypeInformation<'a>,
-    ids: IdInformation<'a>,
-}
-
-impl Original<'_> {
-    fn new(streams: &Streams) -> Self {
-        Original { types: Stream::new(&streams.types), ids: Stream::new(&streams.ids) }
-    }
-
-    // A fresh formatter for each call.
-    fn answer(&self, call: Call, flags: u32, machine: MachineType) -> Answer {
-        let debug = DebugInformation { machine, source: PhantomData };
-        let flags = TypeFormatterFlags::from_bits_retain(flags);
-        let formatter = TypeFormatter::new_from_parts(&NoModules, Vec::new(), &debug, &self.types, &self.ids, None, flags).unwrap();
-        match call {
-            Call::Id(index) => formatter.format_id(0, IdIndex(index)).map_err(kind),
-            Call::Function(name, index) => formatter.format_function(std::str::from_utf8(name).unwrap(), 0, TypeIndex(index)).map_err(kind),
-            Call::Size(index) => Ok(formatter.get_type_size(0, TypeIndex(index)).to_string()),
-            Call::Type(_) => panic!("the original has no call for the text of a type"),
-        }
-    }
-}
+use asked::{refusal, Answer, Original};
+use common::{case_count, real_streams, record_kinds, Call, Rng, Streams, FIRST, UNHANDLED};
+use type_formatter::TypeFormatterFlags;
 
 fn ours(streams: &Streams, call: Call, flags: u32, ptr_size: u8) -> Answer {
     let flags = yokberd::TypeFormatterFlags::from_bits_retain(flags);
@@ -107,16 +50,18 @@ impl Agreed {
                 Err((13..=15, _)) => continue,
                 Err((number, _)) => self.errors[number as usize] += 1,
             }
-            assert_eq!(answer, original.answer(*call, flags, machine), "{} {call:?} flags {flags:#x}", streams.name);
+            // a fresh formatter for each call
+            let expected = asked::answer(&original.formatter(flags, machine), *call);
+            assert_eq!(answer, expected, "{} {call:?} flags {flags:#x}", streams.name);
         }
     }
 }
 
-// Calls for every record, and for what stands in no stream. The text of a type is compared as the entry of a string list.
+// Calls for every record, and for what stands in no stream.
 fn calls(streams: &Streams) -> Vec<Call> {
     let types = (FIRST..=FIRST + streams.type_count).chain([0x74, 0x674, 0x9ff, 0xff, 0x8000_1000]);
     let ids = FIRST..=FIRST + streams.id_count;
-    let of_type = |index| [Call::Function(b"step", index), Call::Function(b"", index), Call::Size(index)];
+    let of_type = |index| [Call::Function(b"step", index), Call::Function(b"", index), Call::Type(index), Call::Size(index)];
     types.flat_map(of_type).chain(ids.map(Call::Id)).chain([Call::Function(b"step", 0), Call::Function(b"", 0)]).collect()
 }
 
@@ -133,23 +78,19 @@ fn flags_are_the_originals() {
 
 // Real streams
 
-const UNHANDLED: [u16; 6] = [0x1203, 0x1205, 0x1206, 0x1603, 0x1606, 0x1607];
-
-fn kind_of(stream: &[u8], index: u32) -> u16 {
-    let mut at = 56;
-    for _ in FIRST..index {
-        at += 2 + usize::from(u16::from_le_bytes([stream[at], stream[at + 1]]));
-    }
-    u16::from_le_bytes([stream[at + 2], stream[at + 3]])
-}
-
 #[test]
 fn real_streams_have_the_originals_texts() {
     let mut agreed = Agreed::default();
     for streams in real_streams() {
         // what the original writes of an unhandled record is debug text
+        let (types, ids) = (record_kinds(&streams.types), record_kinds(&streams.ids));
+        let written = |kinds: &[u16], index: u32| {
+            let kind = index.checked_sub(FIRST).and_then(|at| kinds.get(at as usize));
+            kind.is_none_or(|kind| !UNHANDLED.contains(kind))
+        };
         let handled = |call: &Call| match *call {
-            Call::Id(index) => index == FIRST + streams.id_count || !UNHANDLED.contains(&kind_of(&streams.ids, index)),
+            Call::Id(index) => written(&ids, index),
+            Call::Type(index) => written(&types, index),
             _ => true,
         };
         let asked: Vec<_> = calls(&streams).into_iter().filter(handled).collect();

@@ -1,5 +1,8 @@
 //! What type_formatter.rs takes from the crate `pdb`, written anew from cvinfo.h for well-formed streams.
 //!
+//! The tests hold our texts to the original's over it, and `tools/bench.sh` our times: so records are found and taken apart with as much work as in the
+//! crate, the fields that nobody asks for too.
+//!
 //! Modules and their imports are never asked for: there is no string table, so an index of another module is an error before that.
 use std::borrow::Cow;
 use std::fmt;
@@ -57,42 +60,54 @@ index!(IdIndex);
 
 const FIRST: u32 = 0x1000;
 
-/// The records of a stream, each its kind and fields.
+// The crate notes the place of every eighth record that it has passed.
+const STRIDE: u32 = 8;
+
+// A record's kind and fields, given the place of its length.
+fn record_at(records: &[u8], at: usize) -> Result<&[u8]> {
+    let len = records.get(at..at + 2).ok_or(Error::UnexpectedEof)?;
+    let end = at + 2 + usize::from(u16::from_le_bytes([len[0], len[1]]));
+    records.get(at + 2..end).ok_or(Error::UnexpectedEof)
+}
+
+/// The records of a stream, as bytes. It is walked as the crate walks it, record by record up to the one that is asked for, so that times may be compared.
 pub struct Stream<'s, I> {
-    records: Vec<Vec<u8>>,
-    of: PhantomData<(&'s (), I)>,
+    records: &'s [u8],
+    count: u32,
+    of: PhantomData<I>,
 }
 
 pub type TypeInformation<'s> = Stream<'s, TypeIndex>;
 pub type IdInformation<'s> = Stream<'s, IdIndex>;
 
-impl<I: ItemIndex> Stream<'_, I> {
+impl<'s, I: ItemIndex> Stream<'s, I> {
     /// The records of a stream that is well-formed, with the first index 0x1000.
-    pub fn new(stream: &[u8]) -> Self {
+    pub fn new(stream: &'s [u8]) -> Self {
         let word = |at: usize| u32::from_le_bytes(stream[at..at + 4].try_into().unwrap());
         assert_eq!(word(8), FIRST);
-        let (mut at, end) = (56, 56 + word(16) as usize);
-        let mut records = Vec::new();
-        while at < end {
-            let len = usize::from(u16::from_le_bytes([stream[at], stream[at + 1]]));
-            records.push(stream[at + 2..at + 2 + len].to_vec());
-            at += 2 + len;
-        }
-        assert_eq!(records.len() as u32, word(12) - FIRST);
-        Stream { records, of: PhantomData }
+        let stream = Stream { records: &stream[56..56 + word(16) as usize], count: word(12) - FIRST, of: PhantomData };
+        let mut iter = stream.iter();
+        while iter.next().unwrap().is_some() {}
+        assert_eq!(iter.next - FIRST, stream.count);
+        stream
     }
 
     pub fn iter(&self) -> ItemIter<'_, I> {
-        ItemIter { records: &self.records, next: FIRST, of: PhantomData }
+        ItemIter { records: self.records, at: 0, next: FIRST, of: PhantomData }
     }
 
     pub fn finder(&self) -> ItemFinder<'_, I> {
-        ItemFinder { records: &self.records, of: PhantomData }
+        let mut places = Vec::with_capacity(self.count.div_ceil(STRIDE) as usize);
+        if self.count > 0 {
+            places.push(0);
+        }
+        ItemFinder { records: self.records, places, max: FIRST, of: PhantomData }
     }
 }
 
 pub struct ItemIter<'t, I> {
-    records: &'t [Vec<u8>],
+    records: &'t [u8],
+    at: usize,
     next: u32,
     of: PhantomData<I>,
 }
@@ -102,20 +117,27 @@ impl<'t, I: ItemIndex> FallibleIterator for ItemIter<'t, I> {
     type Error = Error;
 
     fn next(&mut self) -> Result<Option<Item<'t, I>>> {
-        let record = self.records.get((self.next - FIRST) as usize);
+        if self.at >= self.records.len() {
+            return Ok(None);
+        }
+        let data = record_at(self.records, self.at)?;
+        self.at += 2 + data.len();
         self.next += 1;
-        Ok(record.map(|data| Item { index: I::from(self.next - 1), data }))
+        Ok(Some(Item { index: I::from(self.next - 1), data }))
     }
 }
 
 pub struct ItemFinder<'t, I> {
-    records: &'t [Vec<u8>],
+    records: &'t [u8],
+    places: Vec<u32>,
+    max: u32,
     of: PhantomData<I>,
 }
 
 impl<'t, I: ItemIndex> ItemFinder<'t, I> {
+    /// The index behind the last record that was passed: its place is known too.
     pub fn max_index(&self) -> I {
-        I::from(FIRST + self.records.len() as u32 - 1)
+        I::from(self.max)
     }
 
     /// An index below the first has no record. A type's `parse` takes it for a primitive.
@@ -123,11 +145,25 @@ impl<'t, I: ItemIndex> ItemFinder<'t, I> {
         let number: u32 = index.into();
         match number.checked_sub(FIRST) {
             None => Ok(Item { index, data: &[] }),
-            Some(at) => self.records.get(at as usize).map(|data| Item { index, data }).ok_or(Error::TypeNotFound(number)),
+            Some(at) => self.record(at).map(|data| Item { index, data }).map_err(|_| Error::TypeNotFound(number)),
         }
     }
 
-    pub fn update(&mut self, _: &ItemIter<'t, I>) {}
+    fn record(&self, number: u32) -> Result<&'t [u8]> {
+        let mut at = *self.places.get((number / STRIDE) as usize).ok_or(Error::UnexpectedEof)? as usize;
+        for _ in 0..number % STRIDE {
+            at += 2 + record_at(self.records, at)?.len();
+        }
+        record_at(self.records, at)
+    }
+
+    pub fn update(&mut self, iter: &ItemIter<'t, I>) {
+        let number = iter.next - FIRST;
+        if number.is_multiple_of(STRIDE) && (number / STRIDE) as usize == self.places.len() {
+            self.places.push(iter.at as u32);
+        }
+        self.max = self.max.max(iter.next);
+    }
 }
 
 pub struct Item<'t, I> {
@@ -211,8 +247,12 @@ impl<'t> Fields<'t> {
     }
 
     fn list(&mut self) -> Result<Vec<TypeIndex>> {
-        let count = self.u32()?;
-        (0..count).map(|_| self.type_index()).collect()
+        let count = self.u32()? as usize;
+        let mut list = Vec::with_capacity(count.min(self.0.len() / 4));
+        for _ in 0..count {
+            list.push(self.type_index()?);
+        }
+        Ok(list)
     }
 }
 
@@ -286,6 +326,10 @@ impl PointerAttributes {
         }
     }
 
+    pub fn pointer_to_member(self) -> bool {
+        matches!(self.pointer_mode(), PointerMode::Member | PointerMode::MemberFunction)
+    }
+
     pub fn is_const(self) -> bool {
         self.0 >> 10 & 1 != 0
     }
@@ -305,7 +349,11 @@ pub enum ClassKind {
 #[derive(Debug)]
 pub struct ClassType<'t> {
     pub kind: ClassKind,
+    pub count: u16,
     pub properties: TypeProperties,
+    pub fields: Option<TypeIndex>,
+    pub derived_from: Option<TypeIndex>,
+    pub vtable_shape: Option<TypeIndex>,
     pub size: u64,
     pub name: RawString<'t>,
     pub unique_name: Option<RawString<'t>>,
@@ -313,7 +361,9 @@ pub struct ClassType<'t> {
 
 #[derive(Debug)]
 pub struct UnionType<'t> {
+    pub count: u16,
     pub properties: TypeProperties,
+    pub fields: TypeIndex,
     pub size: u64,
     pub name: RawString<'t>,
     pub unique_name: Option<RawString<'t>>,
@@ -321,12 +371,17 @@ pub struct UnionType<'t> {
 
 #[derive(Debug)]
 pub struct EnumerationType<'t> {
+    pub count: u16,
+    pub properties: TypeProperties,
     pub underlying_type: TypeIndex,
+    pub fields: TypeIndex,
     pub name: RawString<'t>,
+    pub unique_name: Option<RawString<'t>>,
 }
 
 #[derive(Debug)]
 pub struct EnumerateType<'t> {
+    pub attributes: u16,
     pub value: Variant,
     pub name: RawString<'t>,
 }
@@ -335,18 +390,22 @@ pub struct EnumerateType<'t> {
 pub struct PointerType {
     pub underlying_type: TypeIndex,
     pub attributes: PointerAttributes,
+    pub containing_class: Option<TypeIndex>,
 }
 
 #[derive(Debug)]
 pub struct ModifierType {
     pub underlying_type: TypeIndex,
     pub constant: bool,
+    pub volatile: bool,
+    pub unaligned: bool,
 }
 
 #[derive(Debug)]
 pub struct ProcedureType {
     pub return_type: Option<TypeIndex>,
     pub attributes: FunctionAttributes,
+    pub parameter_count: u16,
     pub argument_list: TypeIndex,
 }
 
@@ -356,7 +415,9 @@ pub struct MemberFunctionType {
     pub class_type: TypeIndex,
     pub this_pointer_type: Option<TypeIndex>,
     pub attributes: FunctionAttributes,
+    pub parameter_count: u16,
     pub argument_list: TypeIndex,
+    pub this_adjustment: u32,
 }
 
 #[derive(Debug)]
@@ -367,6 +428,7 @@ pub struct ArgumentList {
 #[derive(Debug)]
 pub struct ArrayType {
     pub element_type: TypeIndex,
+    pub indexing_type: TypeIndex,
     pub dimensions: Vec<u32>,
 }
 
@@ -433,57 +495,58 @@ impl<'t> Item<'t, TypeIndex> {
         let mut fields = Fields(self.data);
         let kind = fields.u16()?;
         Ok(match kind {
-            0x1001 => TypeData::Modifier(ModifierType { underlying_type: fields.type_index()?, constant: fields.u16()? & 1 != 0 }),
-            0x1002 => TypeData::Pointer(PointerType { underlying_type: fields.type_index()?, attributes: PointerAttributes(fields.u32()?) }),
-            0x1008 => {
-                let return_type = fields.optional()?;
-                let attributes = FunctionAttributes(fields.u16()?);
-                fields.u16()?;
-                TypeData::Procedure(ProcedureType { return_type, attributes, argument_list: fields.type_index()? })
+            0x1001 => {
+                let (underlying_type, bits) = (fields.type_index()?, fields.u16()?);
+                TypeData::Modifier(ModifierType { underlying_type, constant: bits & 1 != 0, volatile: bits & 2 != 0, unaligned: bits & 4 != 0 })
             }
-            0x1009 => {
-                let (return_type, class_type) = (fields.type_index()?, fields.type_index()?);
-                let this_pointer_type = fields.optional()?;
-                let attributes = FunctionAttributes(fields.u16()?);
-                fields.u16()?;
-                let argument_list = fields.type_index()?;
-                TypeData::MemberFunction(MemberFunctionType { return_type, class_type, this_pointer_type, attributes, argument_list })
+            0x1002 => {
+                let (underlying_type, attributes) = (fields.type_index()?, PointerAttributes(fields.u32()?));
+                let containing_class = if attributes.pointer_to_member() { Some(fields.type_index()?) } else { None };
+                TypeData::Pointer(PointerType { underlying_type, attributes, containing_class })
             }
+            0x1008 => TypeData::Procedure(ProcedureType {
+                return_type: fields.optional()?,
+                attributes: FunctionAttributes(fields.u16()?),
+                parameter_count: fields.u16()?,
+                argument_list: fields.type_index()?,
+            }),
+            0x1009 => TypeData::MemberFunction(MemberFunctionType {
+                return_type: fields.type_index()?,
+                class_type: fields.type_index()?,
+                this_pointer_type: fields.optional()?,
+                attributes: FunctionAttributes(fields.u16()?),
+                parameter_count: fields.u16()?,
+                argument_list: fields.type_index()?,
+                this_adjustment: fields.u32()?,
+            }),
             0x1201 => TypeData::ArgumentList(ArgumentList { arguments: fields.list()? }),
-            0x1502 => {
-                fields.u16()?;
-                TypeData::Enumerate(EnumerateType { value: fields.variant()?, name: fields.name()? })
-            }
+            0x1502 => TypeData::Enumerate(EnumerateType { attributes: fields.u16()?, value: fields.variant()?, name: fields.name()? }),
             0x1503 => {
-                let element_type = fields.type_index()?;
-                fields.u32()?;
+                let (element_type, indexing_type) = (fields.type_index()?, fields.type_index()?);
                 let size = u32::try_from(fields.unsigned()?).map_err(|_| Error::UnexpectedEof)?;
-                TypeData::Array(ArrayType { element_type, dimensions: vec![size] })
+                TypeData::Array(ArrayType { element_type, indexing_type, dimensions: vec![size] })
             }
             0x1504 | 0x1505 | 0x1519 => {
-                fields.u16()?;
-                let properties = TypeProperties(fields.u16()?);
-                fields.take(12)?;
-                let (size, name) = (fields.unsigned()?, fields.name()?);
                 let kind = match kind {
                     0x1504 => ClassKind::Class,
                     0x1505 => ClassKind::Struct,
                     _ => ClassKind::Interface,
                 };
-                TypeData::Class(ClassType { kind, properties, size, name, unique_name: fields.unique_name(properties)? })
+                let (count, properties) = (fields.u16()?, TypeProperties(fields.u16()?));
+                let (members, derived_from, vtable_shape) = (fields.optional()?, fields.optional()?, fields.optional()?);
+                let (size, name, unique_name) = (fields.unsigned()?, fields.name()?, fields.unique_name(properties)?);
+                TypeData::Class(ClassType { kind, count, properties, fields: members, derived_from, vtable_shape, size, name, unique_name })
             }
             0x1506 => {
-                fields.u16()?;
-                let properties = TypeProperties(fields.u16()?);
-                fields.take(4)?;
-                let (size, name) = (fields.unsigned()?, fields.name()?);
-                TypeData::Union(UnionType { properties, size, name, unique_name: fields.unique_name(properties)? })
+                let (count, properties, members) = (fields.u16()?, TypeProperties(fields.u16()?), fields.type_index()?);
+                let (size, name, unique_name) = (fields.unsigned()?, fields.name()?, fields.unique_name(properties)?);
+                TypeData::Union(UnionType { count, properties, fields: members, size, name, unique_name })
             }
             0x1507 => {
-                fields.take(4)?;
-                let underlying_type = fields.type_index()?;
-                fields.u32()?;
-                TypeData::Enumeration(EnumerationType { underlying_type, name: fields.name()? })
+                let (count, properties) = (fields.u16()?, TypeProperties(fields.u16()?));
+                let (underlying_type, members) = (fields.type_index()?, fields.type_index()?);
+                let (name, unique_name) = (fields.name()?, fields.unique_name(properties)?);
+                TypeData::Enumeration(EnumerationType { count, properties, underlying_type, fields: members, name, unique_name })
             }
             0x1203 | 0x1205 | 0x1206 => TypeData::Unhandled(kind),
             _ => return Err(Error::UnimplementedTypeKind(kind)),

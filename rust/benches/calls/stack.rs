@@ -1,0 +1,59 @@
+//! The stack of the deepest calls.
+use crate::common::plain::Plain;
+use crate::common::{self, Call, FIRST};
+use crate::table::{head, row};
+use std::process::Command;
+use std::{env, fs};
+use yokberd::{Sheet, TypeFormatter, TypeFormatterFlags};
+
+/// In a fresh process, which row of `deep_rows` to ask for and how: its number, a colon and one of `WAYS`; or `none`.
+pub const STACK_OF: &str = "YOKBERD_STACK_OF";
+const WAYS: [&str; 3] = ["plain", "checked", "sheet"];
+
+// What no call may take.
+const MOST: u64 = 512;
+
+// The resident pages of the first thread's stack, in KiB.
+fn pages() -> u64 {
+    let maps = fs::read_to_string("/proc/self/smaps").unwrap();
+    let stack = &maps[maps.find("[stack]").unwrap()..];
+    let pages = stack.lines().find_map(|line| line.strip_prefix("Rss:")).unwrap();
+    pages.trim().trim_end_matches(" kB").parse().unwrap()
+}
+
+/// What a fresh process says of its stack after a row was asked for.
+pub fn after(row: &str) {
+    let rows = common::deep_rows();
+    let mut out = vec![0; 8192];
+    if let Some((at, way)) = row.split_once(':') {
+        let (types, call) = (&rows[at.parse::<usize>().unwrap()].1, Call::Type(FIRST));
+        if way == "plain" {
+            Plain { types, ids: types, pointer_size: 8, flags: 0 }.ask(call, &mut out).unwrap();
+        } else {
+            let formatter = TypeFormatter::new_from_parts(types, types, 8, TypeFormatterFlags::empty());
+            let mut sheet = Sheet::new();
+            call.add_to(&mut sheet);
+            match way {
+                "sheet" => assert!(formatter.print_sheet(&sheet, &mut out, 0).lines == 1),
+                _ => assert!(call.ask(&formatter, &mut out).is_ok()),
+            }
+        }
+    }
+    println!("{}", pages());
+}
+
+fn in_a_fresh_process(row: &str) -> u64 {
+    let said = Command::new(env::current_exe().unwrap()).env(STACK_OF, row).output().unwrap();
+    String::from_utf8(said.stdout).unwrap().trim().parse().unwrap()
+}
+
+pub fn print() {
+    head("Stack of one call, in KiB", &["A row of as many open indexes as there may be", "Single", "Checked once", "In a sheet"]);
+    let (none, mut most) = (in_a_fresh_process("none"), 0);
+    for (at, (name, _)) in common::deep_rows().iter().enumerate() {
+        let taken = WAYS.map(|way| in_a_fresh_process(&format!("{at}:{way}")).saturating_sub(none));
+        most = most.max(*taken.iter().max().unwrap());
+        row(&[&[(*name).to_string()], &taken.map(|taken| taken.to_string())[..]].concat());
+    }
+    println!("\nThe most is {most} KiB, {} {MOST} KiB.", if most < MOST { "below" } else { "NOT below" });
+}
