@@ -7,7 +7,7 @@
 # docs/BENCHMARKS.md has the figures of one run.
 set -eu
 root=$(cd "$(dirname "$0")/.." && pwd)
-[ -f "$root/target/staticlib/libyokberd.a" ] || { echo "bench: the library is not there: run rt staticlib yokberd" >&2; exit 1; }
+[ -f "${YOKBERD_LIB_DIR:-$root/target/staticlib}/libyokberd.a" ] || { echo "bench: the library is not there: run rt staticlib yokberd" >&2; exit 1; }
 cd "$root/rust"
 cargo bench --offline --quiet --bench calls --no-run
 echo "$(sed -n 's/^model name[^:]*: //p' /proc/cpuinfo | head -n 1), $(nproc) processors, $(uname -sm), $(rustc --version | cut -d' ' -f1,2)"

@@ -8,7 +8,7 @@
 set -eu
 root=$(cd "$(dirname "$0")/.." && pwd)
 [ -x "$root/target/bin/names" ] || { echo "hostile: the program is not there: run rt check names" >&2; exit 1; }
-[ -f "$root/target/staticlib/libyokberd.a" ] || { echo "hostile: the library is not there: run rt staticlib yokberd" >&2; exit 1; }
+[ -f "${YOKBERD_LIB_DIR:-$root/target/staticlib}/libyokberd.a" ] || { echo "hostile: the library is not there: run rt staticlib yokberd" >&2; exit 1; }
 echo "## \`names\`, within its limits"
 echo
 python3 "$root/tools/hostile.py" "$root/target/bin/names"

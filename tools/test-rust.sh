@@ -1,7 +1,7 @@
 #!/bin/sh
 # Tests the Rust crate at scale, beside the gate: cargo's tests and examples; then random and damaged streams, more of them, their sheets compared with
-# tools/reading.py, a reading of document 01 in Python; more random streams compared with the original; then the tests that call the library once under
-# valgrind, where it is installed.
+# tools/reading.py, a reading of document 01 in Python; calls over streams checked once compared with the plain ones, and over any numbers; more random
+# streams compared with the original; then the tests that call the library once under valgrind, where it is installed.
 #
 #     rt staticlib yokberd && tools/test-rust.sh [CASES]
 #
@@ -10,7 +10,7 @@
 set -eu
 root=$(cd "$(dirname "$0")/.." && pwd)
 cases=${1:-3000}
-[ -f "$root/target/staticlib/libyokberd.a" ] || { echo "test-rust: the library is not there: run rt staticlib yokberd" >&2; exit 1; }
+[ -f "${YOKBERD_LIB_DIR:-$root/target/staticlib}/libyokberd.a" ] || { echo "test-rust: the library is not there: run rt staticlib yokberd" >&2; exit 1; }
 work=$(mktemp -d)
 trap 'rm -rf "$work"' EXIT
 cd "$root/rust"
@@ -23,7 +23,8 @@ echo "test-rust: cargo's tests and the example"
 
 YOKBERD_CASES="$cases" YOKBERD_WRITE="$work/sheets" cargo test --offline --release --quiet --test hostile -- --nocapture >"$work/said" || { cat "$work/said"; exit 1; }
 grep 'pairs of streams' "$work/said"
-YOKBERD_CASES="$cases" cargo test --offline --release --quiet --test threads
+YOKBERD_CASES="$cases" cargo test --offline --release --quiet --test threads --test checked
+echo "test-rust: threads; streams checked once as the plain calls have them, and any numbers in place of what the check noted"
 find "$work/sheets" -mindepth 1 -maxdepth 1 -type d -print0 | xargs -0 -n 500 python3 "$root/tools/reading.py" sheets
 echo "test-rust: $(ls "$work/sheets" | wc -l) sheets as tools/reading.py has them"
 
@@ -33,7 +34,7 @@ echo "test-rust: texts, sizes and errors as the original has them"
 
 if command -v valgrind >/dev/null; then
     YOKBERD_CASES=30 CARGO_TARGET_X86_64_UNKNOWN_LINUX_GNU_RUNNER="valgrind -q --error-exitcode=1" cargo test --offline --quiet \
-        --test expected --test hostile --test threads
+        --test expected --test hostile --test threads --test checked
     echo "test-rust: the tests under valgrind, with no error"
 fi
 echo "test-rust: passed"

@@ -1,8 +1,8 @@
-//! The five functions of the proved library, each behind a safe one.
+//! The functions of the proved library that the crate calls, each behind a safe one.
 //!
 //! The library asks nothing of the numbers and bytes that it is lent: bad ones are refused. What it asks is what Rust's slices and references are by
-//! themselves: pointers that are not null and aligned, to as many bytes as the length says, at most `isize::MAX`, a lent buffer that nothing else reaches
-//! while the call runs. So the safe functions have nothing left to test. They turn a refusal into an [`Error`].
+//! themselves: pointers that are not null and aligned, to as many elements as the length says, at most `isize::MAX` bytes, a lent buffer that nothing else
+//! reaches while the call runs. So the safe functions have nothing left to test. They turn a refusal into an [`Error`].
 use crate::Error;
 
 /// How much a sheet call printed.
@@ -21,9 +21,20 @@ pub struct Printed {
 mod library {
     // `rt staticlib yokberd` builds it; c/yokberd.h documents it.
     extern "C" {
-        pub fn yokberd_format_function(
+        pub fn yokberd_check_streams(
             types: *const u8,
             types_len: usize,
+            ids: *const u8,
+            ids_len: usize,
+            stride: u32,
+            checked: *mut u32,
+            checked_len: usize,
+        ) -> usize;
+        pub fn yokberd_checked_format_function(
+            types: *const u8,
+            types_len: usize,
+            checked: *const u32,
+            checked_len: usize,
             out: *mut u8,
             out_len: usize,
             flags: u32,
@@ -34,11 +45,13 @@ mod library {
             detail: *mut u32,
             text_len: *mut usize,
         ) -> u32;
-        pub fn yokberd_format_id(
+        pub fn yokberd_checked_format_id(
             types: *const u8,
             types_len: usize,
             ids: *const u8,
             ids_len: usize,
+            checked: *const u32,
+            checked_len: usize,
             out: *mut u8,
             out_len: usize,
             flags: u32,
@@ -47,9 +60,11 @@ mod library {
             detail: *mut u32,
             text_len: *mut usize,
         ) -> u32;
-        pub fn yokberd_format_type(
+        pub fn yokberd_checked_format_type(
             types: *const u8,
             types_len: usize,
+            checked: *const u32,
+            checked_len: usize,
             out: *mut u8,
             out_len: usize,
             flags: u32,
@@ -58,7 +73,16 @@ mod library {
             detail: *mut u32,
             text_len: *mut usize,
         ) -> u32;
-        pub fn yokberd_get_type_size(types: *const u8, types_len: usize, pointer_size: u32, index: u32, detail: *mut u32, bytes: *mut u64) -> u32;
+        pub fn yokberd_checked_get_type_size(
+            types: *const u8,
+            types_len: usize,
+            checked: *const u32,
+            checked_len: usize,
+            pointer_size: u32,
+            index: u32,
+            detail: *mut u32,
+            size: *mut u64,
+        ) -> u32;
         pub fn yokberd_print_sheet(
             types: *const u8,
             types_len: usize,
@@ -82,14 +106,22 @@ fn answer<T>(number: u32, detail: u32, value: T) -> Result<T, Error> {
     Err(Error::from_refusal(number, detail).expect("the library refuses by the numbers of its table"))
 }
 
+/// Checks both streams, and notes in `checked` what the four calls below go by. Gives how many numbers of it serve; where it has fewer, look-ups take longer.
+pub fn check_streams(types: &[u8], ids: &[u8], stride: u32, checked: &mut [u32]) -> usize {
+    // SAFETY: the pointers and lengths are those of slices that live through the call, and `checked` is lent to it alone.
+    unsafe { library::yokberd_check_streams(types.as_ptr(), types.len(), ids.as_ptr(), ids.len(), stride, checked.as_mut_ptr(), checked.len()) }
+}
+
 /// The text of a function in the start of `out`, and its length.
-pub fn format_function(types: &[u8], out: &mut [u8], flags: u32, pointer_size: u32, name: &[u8], index: u32) -> Result<usize, Error> {
+pub fn format_function(types: &[u8], checked: &[u32], out: &mut [u8], flags: u32, pointer_size: u32, name: &[u8], index: u32) -> Result<usize, Error> {
     let (mut detail, mut text_len) = (0, 0);
     // SAFETY: the pointers and lengths are those of slices that live through the call, and `out` and the two numbers are lent to it alone.
     let number = unsafe {
-        library::yokberd_format_function(
+        library::yokberd_checked_format_function(
             types.as_ptr(),
             types.len(),
+            checked.as_ptr(),
+            checked.len(),
             out.as_mut_ptr(),
             out.len(),
             flags,
@@ -105,15 +137,17 @@ pub fn format_function(types: &[u8], out: &mut [u8], flags: u32, pointer_size: u
 }
 
 /// The text of an id in the start of `out`, and its length.
-pub fn format_id(types: &[u8], ids: &[u8], out: &mut [u8], flags: u32, pointer_size: u32, index: u32) -> Result<usize, Error> {
+pub fn format_id(types: &[u8], ids: &[u8], checked: &[u32], out: &mut [u8], flags: u32, pointer_size: u32, index: u32) -> Result<usize, Error> {
     let (mut detail, mut text_len) = (0, 0);
     // SAFETY: as in `format_function`.
     let number = unsafe {
-        library::yokberd_format_id(
+        library::yokberd_checked_format_id(
             types.as_ptr(),
             types.len(),
             ids.as_ptr(),
             ids.len(),
+            checked.as_ptr(),
+            checked.len(),
             out.as_mut_ptr(),
             out.len(),
             flags,
@@ -127,21 +161,35 @@ pub fn format_id(types: &[u8], ids: &[u8], out: &mut [u8], flags: u32, pointer_s
 }
 
 /// The text of a type in the start of `out`, and its length.
-pub fn format_type(types: &[u8], out: &mut [u8], flags: u32, pointer_size: u32, index: u32) -> Result<usize, Error> {
+pub fn format_type(types: &[u8], checked: &[u32], out: &mut [u8], flags: u32, pointer_size: u32, index: u32) -> Result<usize, Error> {
     let (mut detail, mut text_len) = (0, 0);
     // SAFETY: as in `format_function`.
     let number = unsafe {
-        library::yokberd_format_type(types.as_ptr(), types.len(), out.as_mut_ptr(), out.len(), flags, pointer_size, index, &mut detail, &mut text_len)
+        library::yokberd_checked_format_type(
+            types.as_ptr(),
+            types.len(),
+            checked.as_ptr(),
+            checked.len(),
+            out.as_mut_ptr(),
+            out.len(),
+            flags,
+            pointer_size,
+            index,
+            &mut detail,
+            &mut text_len,
+        )
     };
     answer(number, detail, text_len)
 }
 
 /// The size of a type.
-pub fn get_type_size(types: &[u8], pointer_size: u32, index: u32) -> Result<u64, Error> {
-    let (mut detail, mut bytes) = (0, 0);
+pub fn get_type_size(types: &[u8], checked: &[u32], pointer_size: u32, index: u32) -> Result<u64, Error> {
+    let (mut detail, mut size) = (0, 0);
     // SAFETY: as in `format_function`.
-    let number = unsafe { library::yokberd_get_type_size(types.as_ptr(), types.len(), pointer_size, index, &mut detail, &mut bytes) };
-    answer(number, detail, bytes)
+    let number = unsafe {
+        library::yokberd_checked_get_type_size(types.as_ptr(), types.len(), checked.as_ptr(), checked.len(), pointer_size, index, &mut detail, &mut size)
+    };
+    answer(number, detail, size)
 }
 
 /// The lines of a sheet behind the first `skip`, as far as whole lines fit.

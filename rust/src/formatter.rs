@@ -1,5 +1,6 @@
 //! `TypeFormatter`: the API of the original over the proved library.
 use crate::{boundary, Error, IdIndex, Printed, Sheet, TypeFormatterFlags, TypeIndex};
+use std::cell::Cell;
 use std::fmt::Write;
 
 type Result<T> = std::result::Result<T, Error>;
@@ -7,20 +8,38 @@ type Result<T> = std::result::Result<T, Error>;
 /// The longest text that a formatter gives, in bytes, where [`TypeFormatter::with_text_limit`] sets no other.
 pub const TEXT_LIMIT: usize = 1 << 20;
 
-// A text's buffer at first; most texts fit. A longer one is asked for again, with a buffer so many times as long.
-const FIRST_BUFFER: usize = 512;
-const GROWTH: usize = 8;
+// How many records apart the places are that a formatter notes: so a look-up passes seven records at most.
+const STRIDE: u32 = 8;
+
+// The longest stream that is not refused.
+const STREAM_LIMIT: usize = 1 << 24;
+
+// A text is written into a buffer of its thread and then copied out. Where it does not fit, it is asked for again with a buffer so many times as long. The
+// thread keeps one of this length at most: what is kept and lent is filled with zeros by a refused call.
+const FIRST_BUFFER: usize = 1 << 12;
+const GROWTH: usize = 4;
+const KEPT_BUFFER: usize = 1 << 16;
+
+thread_local! {
+    // Taken while it is in use: a writer that asks for a text inside another has a new one.
+    static BUFFER: Cell<Vec<u8>> = const { Cell::new(Vec::new()) };
+}
 
 // A buffer for a sheet's lines: any one line has at most 4,150 bytes.
 const PAGE: usize = 1 << 16;
 
 /// Allows printing function signatures, for example for use in stack traces.
 ///
-/// It is made over the bytes of the type stream and the id stream of a PDB. Nothing is read then. Each call checks its streams, so that a damaged one is
-/// refused and nothing else: every call ends, and its answer is the one that the library is proved to give, whatever was asked before.
+/// It is made over the bytes of the type stream and the id stream of a PDB. Both are checked then, once, in one pass over their records, and the places of
+/// every eighth record are noted: some half of a byte for each record, which the formatter keeps beside the borrowed streams. A damaged stream is no error
+/// then: each call over it is refused, and the others are not. Every call ends, and its answer is the one that the library is proved to give, whatever was
+/// asked before.
+///
+/// A look-up starts at a noted place, so a call does not take longer on longer streams. What does bound its time is said at the [crate](crate#time).
 ///
 /// A text is bytes as they stand in the records, which may not be UTF-8. The calls named as in the original give a `String`, in which each ill-formed part
-/// is replaced by U+FFFD; those with `_bytes` give the bytes, those with `_into` write them into a buffer of the caller's and allocate nothing.
+/// is replaced by U+FFFD; those with `_bytes` give the bytes, those with `_into` write them into a buffer of the caller's and allocate nothing. The others
+/// write into a buffer of their thread, which is kept for the next call and grows with the texts up to 64 KiB, and copy the text out of it.
 ///
 /// The module index is taken so that calls written for the original can stay as they are. It is not used: an index that leads into another module, which
 /// has bit 31 set, is refused ([`Error::CrossModule`]).
@@ -37,96 +56,99 @@ const PAGE: usize = 1 << 16;
 /// assert_eq!(formatter.get_type_size(0, TypeIndex(0x40))?, 4);
 /// # Ok::<(), Box<dyn std::error::Error>>(())
 /// ```
-#[derive(Clone, Copy, Debug)]
+#[derive(Clone, Debug)]
 pub struct TypeFormatter<'a> {
     types: &'a [u8],
     ids: &'a [u8],
+    // What the check of both streams noted. They are borrowed, so it holds as long as the formatter is there.
+    checked: Vec<u32>,
     ptr_size: u8,
     flags: TypeFormatterFlags,
     text_limit: usize,
 }
 
 impl<'a> TypeFormatter<'a> {
-    /// A formatter over the bytes of a type stream and an id stream (streams 2 and 4 of a PDB), for a machine with pointers of `ptr_size` bytes.
-    pub const fn new_from_parts(types: &'a [u8], ids: &'a [u8], ptr_size: u8, flags: TypeFormatterFlags) -> Self {
-        TypeFormatter { types, ids, ptr_size, flags, text_limit: TEXT_LIMIT }
+    /// A formatter over the bytes of a type stream and an id stream (streams 2 and 4 of a PDB), for a machine with pointers of `ptr_size` bytes. It checks
+    /// both streams; where one is refused, so is each call over it.
+    pub fn new_from_parts(types: &'a [u8], ids: &'a [u8], ptr_size: u8, flags: TypeFormatterFlags) -> Self {
+        TypeFormatter { types, ids, checked: check(types, ids), ptr_size, flags, text_limit: TEXT_LIMIT }
     }
 
     /// The same formatter with another limit for the texts that it allocates; a longer text is refused with [`Error::NoRoom`].
     ///
-    /// A call takes time by the length of its text and of its streams together, and a hostile stream can ask for a very long text. So a service that is sent
-    /// streams from elsewhere sets a small limit.
-    pub const fn with_text_limit(self, text_limit: usize) -> Self {
+    /// A hostile stream can ask for a very long text, and for much work with each byte of it ([time](crate#time)). So a service that is sent streams from
+    /// elsewhere sets a small limit.
+    pub fn with_text_limit(self, text_limit: usize) -> Self {
         TypeFormatter { text_limit, ..self }
     }
 
     /// Get the size, in bytes, of the type at `index`. What cannot be read has the size 0, as in the original; a broken stream, a bad pointer size and a
     /// chain of more than 32 records are refused.
     pub fn get_type_size(&self, _module_index: usize, index: TypeIndex) -> Result<u64> {
-        boundary::get_type_size(self.types, self.ptr_size.into(), index.0)
+        boundary::get_type_size(self.types, &self.checked, self.ptr_size.into(), index.0)
     }
 
     /// Return a string with the function or method signature, including return type (if requested), namespace and/or class qualifiers, and arguments.
     /// If the TypeIndex is 0, then only the raw name is emitted.
     pub fn format_function(&self, name: &str, module_index: usize, function_type_index: TypeIndex) -> Result<String> {
-        Ok(into_string(self.format_function_bytes(name.as_bytes(), module_index, function_type_index)?))
+        self.text(|out| self.format_function_into(out, name.as_bytes(), module_index, function_type_index), into_string)
     }
 
     /// [`format_function`](Self::format_function) with bytes for the name and the text.
     pub fn format_function_bytes(&self, name: &[u8], module_index: usize, function_type_index: TypeIndex) -> Result<Vec<u8>> {
-        self.text(|out| self.format_function_into(out, name, module_index, function_type_index))
+        self.text(|out| self.format_function_into(out, name, module_index, function_type_index), <[u8]>::to_vec)
     }
 
     /// [`format_function`](Self::format_function) into the start of a buffer; gives the text's length. The bytes behind the text stay as they were. Where
     /// the call is refused, the whole buffer is filled with zeros.
     pub fn format_function_into(&self, out: &mut [u8], name: &[u8], _module_index: usize, function_type_index: TypeIndex) -> Result<usize> {
-        boundary::format_function(self.types, out, self.flags.bits(), self.ptr_size.into(), name, function_type_index.0)
+        boundary::format_function(self.types, &self.checked, out, self.flags.bits(), self.ptr_size.into(), name, function_type_index.0)
     }
 
     /// Write out the text of [`format_function`](Self::format_function). Where the call is refused, nothing is written.
     pub fn emit_function(&self, w: &mut impl Write, name: &str, module_index: usize, function_type_index: TypeIndex) -> Result<()> {
-        Ok(w.write_str(&self.format_function(name, module_index, function_type_index)?)?)
+        self.text(|out| self.format_function_into(out, name.as_bytes(), module_index, function_type_index), |text| write_text(w, text))?
     }
 
     /// Return a string with the function or method signature of an id, including return type (if requested), namespace and/or class qualifiers, and
     /// arguments. This method is used for inlined functions.
     pub fn format_id(&self, module_index: usize, id_index: IdIndex) -> Result<String> {
-        Ok(into_string(self.format_id_bytes(module_index, id_index)?))
+        self.text(|out| self.format_id_into(out, module_index, id_index), into_string)
     }
 
     /// [`format_id`](Self::format_id) as bytes.
     pub fn format_id_bytes(&self, module_index: usize, id_index: IdIndex) -> Result<Vec<u8>> {
-        self.text(|out| self.format_id_into(out, module_index, id_index))
+        self.text(|out| self.format_id_into(out, module_index, id_index), <[u8]>::to_vec)
     }
 
     /// [`format_id`](Self::format_id) into the start of a buffer, which is left as [`format_function_into`](Self::format_function_into) leaves it.
     pub fn format_id_into(&self, out: &mut [u8], _module_index: usize, id_index: IdIndex) -> Result<usize> {
-        boundary::format_id(self.types, self.ids, out, self.flags.bits(), self.ptr_size.into(), id_index.0)
+        boundary::format_id(self.types, self.ids, &self.checked, out, self.flags.bits(), self.ptr_size.into(), id_index.0)
     }
 
     /// Write out the text of [`format_id`](Self::format_id). Where the call is refused, nothing is written.
     pub fn emit_id(&self, w: &mut impl Write, module_index: usize, id_index: IdIndex) -> Result<()> {
-        Ok(w.write_str(&self.format_id(module_index, id_index)?)?)
+        self.text(|out| self.format_id_into(out, module_index, id_index), |text| write_text(w, text))?
     }
 
     /// Return a string with the text of a type. The original writes it too, as a part of signatures, and offers no call for it.
     pub fn format_type(&self, module_index: usize, index: TypeIndex) -> Result<String> {
-        Ok(into_string(self.format_type_bytes(module_index, index)?))
+        self.text(|out| self.format_type_into(out, module_index, index), into_string)
     }
 
     /// [`format_type`](Self::format_type) as bytes.
     pub fn format_type_bytes(&self, module_index: usize, index: TypeIndex) -> Result<Vec<u8>> {
-        self.text(|out| self.format_type_into(out, module_index, index))
+        self.text(|out| self.format_type_into(out, module_index, index), <[u8]>::to_vec)
     }
 
     /// [`format_type`](Self::format_type) into the start of a buffer, which is left as [`format_function_into`](Self::format_function_into) leaves it.
     pub fn format_type_into(&self, out: &mut [u8], _module_index: usize, index: TypeIndex) -> Result<usize> {
-        boundary::format_type(self.types, out, self.flags.bits(), self.ptr_size.into(), index.0)
+        boundary::format_type(self.types, &self.checked, out, self.flags.bits(), self.ptr_size.into(), index.0)
     }
 
     /// Write out the text of [`format_type`](Self::format_type). Where the call is refused, nothing is written.
     pub fn emit_type(&self, w: &mut impl Write, module_index: usize, index: TypeIndex) -> Result<()> {
-        Ok(w.write_str(&self.format_type(module_index, index)?)?)
+        self.text(|out| self.format_type_into(out, module_index, index), |text| write_text(w, text))?
     }
 
     /// A sheet that starts with the formatter's flags and pointer size.
@@ -158,24 +180,52 @@ impl<'a> TypeFormatter<'a> {
         boundary::print_sheet(self.types, self.ids, sheet.as_bytes(), out, skip)
     }
 
-    // A text in a buffer that is long enough for it, up to the limit.
-    fn text(&self, call: impl Fn(&mut [u8]) -> Result<usize>) -> Result<Vec<u8>> {
-        let mut room = FIRST_BUFFER.min(self.text_limit);
-        loop {
-            let mut out = vec![0; room];
-            match call(&mut out) {
-                Ok(text_len) => {
-                    out.truncate(text_len);
-                    return Ok(out);
-                }
-                Err(Error::NoRoom) if room < self.text_limit => room = room.saturating_mul(GROWTH).min(self.text_limit),
-                Err(error) => return Err(error),
-            }
+    // What is made of a text, which is written into a buffer that is long enough for it, up to the limit.
+    fn text<T>(&self, call: impl Fn(&mut [u8]) -> Result<usize>, made_of: impl FnOnce(&[u8]) -> T) -> Result<T> {
+        let mut buffer = BUFFER.try_with(Cell::take).unwrap_or_default();
+        if buffer.is_empty() {
+            buffer = vec![0; FIRST_BUFFER];
         }
+        let answer = loop {
+            let room = buffer.len().min(self.text_limit);
+            match call(&mut buffer[..room]) {
+                Err(Error::NoRoom) if room < self.text_limit => buffer = vec![0; room.saturating_mul(GROWTH).min(self.text_limit)],
+                answer => break answer,
+            }
+        };
+        let made = answer.map(|text_len| made_of(&buffer[..text_len]));
+        if buffer.len() <= KEPT_BUFFER {
+            // a thread that ends has no place to keep it any more
+            let _ = BUFFER.try_with(|kept| kept.set(buffer));
+        }
+        made
     }
 }
 
+// What the library notes of both streams. Its answer says how many numbers serve; what is lent at first is more than that on any stream that is not refused.
+fn check(types: &[u8], ids: &[u8]) -> Vec<u32> {
+    let mut checked = vec![0; numbers(types) + numbers(ids)];
+    let serving = boundary::check_streams(types, ids, STRIDE, &mut checked);
+    if serving > checked.len() {
+        checked = vec![0; serving];
+        boundary::check_streams(types, ids, STRIDE, &mut checked);
+    }
+    checked
+}
+
+// Numbers for a stream by what its header says of its records, each of which has four bytes at least: twice as many as there are places. A stream that is
+// longer than the limit is refused.
+fn numbers(stream: &[u8]) -> usize {
+    let word = |at: usize| stream.get(at..at + 4).map_or(0, |bytes| u32::from_le_bytes([bytes[0], bytes[1], bytes[2], bytes[3]]));
+    let records = word(12).saturating_sub(word(8)) as usize;
+    records.min(stream.len().min(STREAM_LIMIT) / 4) / STRIDE as usize * 2 + 32
+}
+
 // The text where it is UTF-8; else a copy with each ill-formed part replaced.
-fn into_string(text: Vec<u8>) -> String {
-    String::from_utf8(text).unwrap_or_else(|error| String::from_utf8_lossy(error.as_bytes()).into_owned())
+fn into_string(text: &[u8]) -> String {
+    String::from_utf8_lossy(text).into_owned()
+}
+
+fn write_text(w: &mut impl Write, text: &[u8]) -> Result<()> {
+    Ok(w.write_str(&String::from_utf8_lossy(text))?)
 }

@@ -19,6 +19,21 @@
 //! ```
 //!
 //! A call takes at most 512 KiB of stack. A thread has 2 MiB where nothing else is said.
+//!
+//! # Time
+//!
+//! A [`TypeFormatter`] passes over the records of both streams once, when it is made. Its calls do not: on real streams a call takes as long as its text
+//! asks for, some ten nanoseconds for a byte, however long the streams are. docs/BENCHMARKS.md has figures, beside those of the original.
+//!
+//! Streams that are made to take long are bounded by a product. For each byte of text that there is room for, a call opens at most 95 indexes. To open one
+//! it passes at most 7 records from a noted place, compares the index with those that are open, at most 96, and reads the record, which can have a name of
+//! 65,000 bytes. For each array that it writes, which takes two bytes of text at least, it can pass once over all records behind the declaration of a
+//! struct, to find its definition. So
+//!
+//! > time of a call ≤ bytes of text × (95 openings + half a pass over the type stream),
+//!
+//! and what a caller can choose is the first factor: the length of the buffer, or [`TypeFormatter::with_text_limit`]. A sheet has the same bound for each
+//! line, with 4,096 bytes of text, and there a look-up passes up to a 128th of the stream's records.
 #![warn(missing_docs)]
 
 mod boundary;

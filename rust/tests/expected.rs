@@ -16,8 +16,8 @@ fn small_stream_cases() {
     let plain = formatter(&types, &[], 0);
     let text = |index| plain.format_type(0, TypeIndex(index));
     assert_eq!(text(0x1002), Ok("void (*)(int)".into()));
-    assert_eq!(plain.with_text_limit(13).format_type(0, TypeIndex(0x1002)), Ok("void (*)(int)".into()));
-    assert_eq!(plain.with_text_limit(12).format_type(0, TypeIndex(0x1002)), Err(Error::NoRoom));
+    assert_eq!(plain.clone().with_text_limit(13).format_type(0, TypeIndex(0x1002)), Ok("void (*)(int)".into()));
+    assert_eq!(plain.clone().with_text_limit(12).format_type(0, TypeIndex(0x1002)), Err(Error::NoRoom));
     assert_eq!(text(0x1004), Ok("char const* const".into()));
     let spaced = formatter(&types, &[], TypeFormatterFlags::SPACE_BEFORE_POINTER.bits());
     assert_eq!(spaced.format_type(0, TypeIndex(0x1004)), Ok("char const * const".into()));
@@ -133,8 +133,8 @@ fn long_texts() {
     let list = vec![name.as_slice(); 20].join(&b","[..]);
     assert!(list.len() > yokberd::TEXT_LIMIT);
     assert_eq!(short.format_type_bytes(0, TypeIndex(0x1001)), Err(Error::NoRoom));
-    assert_eq!(short.with_text_limit(list.len()).format_type_bytes(0, TypeIndex(0x1001)), Ok(list.clone()));
-    assert_eq!(short.with_text_limit(list.len() - 1).format_type_bytes(0, TypeIndex(0x1001)), Err(Error::NoRoom));
+    assert_eq!(short.clone().with_text_limit(list.len()).format_type_bytes(0, TypeIndex(0x1001)), Ok(list.clone()));
+    assert_eq!(short.clone().with_text_limit(list.len() - 1).format_type_bytes(0, TypeIndex(0x1001)), Err(Error::NoRoom));
 }
 
 // Lists of lists whose text would have 2^60 entries: refused at the limit.

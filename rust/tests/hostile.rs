@@ -71,7 +71,7 @@ fn every_room(rng: &mut Rng, formatter: &TypeFormatter, call: Call) -> Result<Ve
 
 // The forms that allocate have the same answer, as UTF-8 as far as it goes, and write nothing where they are refused.
 fn emitted(formatter: &TypeFormatter, call: Call, whole: &Result<Vec<u8>, Error>) {
-    let (formatter, mut text) = (formatter.with_text_limit(SHEET_TEXT), String::new());
+    let (formatter, mut text) = (formatter.clone().with_text_limit(SHEET_TEXT), String::new());
     let done = match call {
         Call::Type(index) => formatter.emit_type(&mut text, 0, TypeIndex(index)),
         Call::Id(index) => formatter.emit_id(&mut text, 0, IdIndex(index)),

@@ -9,7 +9,7 @@
 //! Like for like: the same with the original's `emit_` calls, which write into a string that is there; and our calls that make a `String`, of a new
 //! formatter and of one that checked.
 use crate::asked::{answer, refusal, Answer, Original};
-use crate::common::plain::Plain;
+use crate::common::library::Plain;
 use crate::common::{record_kinds, Call, Rng, Streams, FIRST, UNHANDLED};
 use crate::pdb_stand_in::{IdIndex, MachineType, TypeIndex};
 use crate::table::{grown, head, micros, ratio, row, thousands};

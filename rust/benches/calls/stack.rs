@@ -1,5 +1,5 @@
 //! The stack of the deepest calls.
-use crate::common::plain::Plain;
+use crate::common::library::Plain;
 use crate::common::{self, Call, FIRST};
 use crate::table::{head, row};
 use std::process::Command;

@@ -8,7 +8,7 @@ mod table;
 #[path = "../calls/timing.rs"]
 mod timing;
 
-use common::plain::Plain;
+use common::library::Plain;
 use common::{Call, FIRST};
 use std::hint::black_box;
 use table::{head, micros, row, thousands};

@@ -1,7 +1,7 @@
 //! Streams for the tests and the benchmark: records as cvinfo.h lays them out, random streams, and damage.
 #![allow(dead_code)]
 
-pub mod plain;
+pub mod library;
 
 use std::fs;
 use std::path::PathBuf;

@@ -1,0 +1,215 @@
+//! The library's calls as C has them: the plain ones, each of which checks its streams, and those over streams that were checked once, with any numbers in
+//! place of what the check noted.
+use super::Call;
+use yokberd::Error;
+
+extern "C" {
+    fn yokberd_format_function(
+        types: *const u8,
+        types_len: usize,
+        out: *mut u8,
+        out_len: usize,
+        flags: u32,
+        pointer_size: u32,
+        name: *const u8,
+        name_len: usize,
+        index: u32,
+        detail: *mut u32,
+        text_len: *mut usize,
+    ) -> u32;
+    fn yokberd_format_id(
+        types: *const u8,
+        types_len: usize,
+        ids: *const u8,
+        ids_len: usize,
+        out: *mut u8,
+        out_len: usize,
+        flags: u32,
+        pointer_size: u32,
+        index: u32,
+        detail: *mut u32,
+        text_len: *mut usize,
+    ) -> u32;
+    fn yokberd_format_type(
+        types: *const u8,
+        types_len: usize,
+        out: *mut u8,
+        out_len: usize,
+        flags: u32,
+        pointer_size: u32,
+        index: u32,
+        detail: *mut u32,
+        text_len: *mut usize,
+    ) -> u32;
+    fn yokberd_get_type_size(types: *const u8, types_len: usize, pointer_size: u32, index: u32, detail: *mut u32, size: *mut u64) -> u32;
+    fn yokberd_check_streams(
+        types: *const u8,
+        types_len: usize,
+        ids: *const u8,
+        ids_len: usize,
+        stride: u32,
+        checked: *mut u32,
+        checked_len: usize,
+    ) -> usize;
+    fn yokberd_checked_format_function(
+        types: *const u8,
+        types_len: usize,
+        checked: *const u32,
+        checked_len: usize,
+        out: *mut u8,
+        out_len: usize,
+        flags: u32,
+        pointer_size: u32,
+        name: *const u8,
+        name_len: usize,
+        index: u32,
+        detail: *mut u32,
+        text_len: *mut usize,
+    ) -> u32;
+    fn yokberd_checked_format_id(
+        types: *const u8,
+        types_len: usize,
+        ids: *const u8,
+        ids_len: usize,
+        checked: *const u32,
+        checked_len: usize,
+        out: *mut u8,
+        out_len: usize,
+        flags: u32,
+        pointer_size: u32,
+        index: u32,
+        detail: *mut u32,
+        text_len: *mut usize,
+    ) -> u32;
+    fn yokberd_checked_format_type(
+        types: *const u8,
+        types_len: usize,
+        checked: *const u32,
+        checked_len: usize,
+        out: *mut u8,
+        out_len: usize,
+        flags: u32,
+        pointer_size: u32,
+        index: u32,
+        detail: *mut u32,
+        text_len: *mut usize,
+    ) -> u32;
+    fn yokberd_checked_get_type_size(
+        types: *const u8,
+        types_len: usize,
+        checked: *const u32,
+        checked_len: usize,
+        pointer_size: u32,
+        index: u32,
+        detail: *mut u32,
+        size: *mut u64,
+    ) -> u32;
+}
+
+/// Two streams and settings.
+#[derive(Clone, Copy)]
+pub struct Plain<'a> {
+    pub types: &'a [u8],
+    pub ids: &'a [u8],
+    pub pointer_size: u32,
+    pub flags: u32,
+}
+
+/// What a call answers: the length of a text, which is at the start of the buffer, or a size.
+pub type Number = Result<u64, Error>;
+
+fn told(number: u32, detail: u32, value: u64) -> Number {
+    match number {
+        0 => {
+            assert_eq!(detail, 0);
+            Ok(value)
+        }
+        _ => {
+            assert_eq!(value, 0);
+            Err(Error::from_refusal(number, detail).expect("a number of the table"))
+        }
+    }
+}
+
+impl Plain<'_> {
+    /// A plain call.
+    pub fn ask(&self, call: Call, out: &mut [u8]) -> Number {
+        let (types, types_len, ids, ids_len) = (self.types.as_ptr(), self.types.len(), self.ids.as_ptr(), self.ids.len());
+        let (flags, pointer_size, at, room) = (self.flags, self.pointer_size, out.as_mut_ptr(), out.len());
+        let (mut detail, mut text_len, mut size) = (7, 7, 7);
+        let (detail_at, len_at) = (&mut detail, &mut text_len);
+        // SAFETY: the pointers and lengths are those of slices that live through the call, and what it writes is lent to it alone.
+        unsafe {
+            let number = match call {
+                Call::Function(name, index) => {
+                    let (name, name_len) = (name.as_ptr(), name.len());
+                    yokberd_format_function(types, types_len, at, room, flags, pointer_size, name, name_len, index, detail_at, len_at)
+                }
+                Call::Id(index) => yokberd_format_id(types, types_len, ids, ids_len, at, room, flags, pointer_size, index, detail_at, len_at),
+                Call::Type(index) => yokberd_format_type(types, types_len, at, room, flags, pointer_size, index, detail_at, len_at),
+                Call::Size(index) => {
+                    let number = yokberd_get_type_size(types, types_len, pointer_size, index, detail_at, &mut size);
+                    return told(number, detail, size);
+                }
+            };
+            told(number, detail, text_len as u64)
+        }
+    }
+
+    /// Checks both streams; gives how many numbers serve.
+    pub fn check(&self, stride: u32, checked: &mut [u32]) -> usize {
+        let (types, ids) = (self.types, self.ids);
+        // SAFETY: as in `ask`.
+        unsafe { yokberd_check_streams(types.as_ptr(), types.len(), ids.as_ptr(), ids.len(), stride, checked.as_mut_ptr(), checked.len()) }
+    }
+
+    /// As many numbers as serve, with what the check notes in them. By a stride of 0 as many places are noted as fit: then some hundreds.
+    pub fn checked(&self, stride: u32) -> Vec<u32> {
+        let serving = if stride == 0 { 300 } else { self.check(stride, &mut [0; 20]).max(20) };
+        let mut checked = vec![0; serving];
+        let said = self.check(stride, &mut checked);
+        assert!(stride == 0 || said.max(20) == serving, "how many numbers serve depends on how many are lent");
+        checked
+    }
+
+    /// A call over any numbers.
+    pub fn ask_checked(&self, checked: &[u32], call: Call, out: &mut [u8]) -> Number {
+        let (types, types_len, ids, ids_len) = (self.types.as_ptr(), self.types.len(), self.ids.as_ptr(), self.ids.len());
+        let (flags, pointer_size, at, room) = (self.flags, self.pointer_size, out.as_mut_ptr(), out.len());
+        let (places, count) = (checked.as_ptr(), checked.len());
+        let (mut detail, mut text_len, mut size) = (7, 7, 7);
+        let (detail_at, len_at) = (&mut detail, &mut text_len);
+        // SAFETY: as in `ask`.
+        unsafe {
+            let number = match call {
+                Call::Function(name, index) => {
+                    let (name, name_len) = (name.as_ptr(), name.len());
+                    yokberd_checked_format_function(
+                        types,
+                        types_len,
+                        places,
+                        count,
+                        at,
+                        room,
+                        flags,
+                        pointer_size,
+                        name,
+                        name_len,
+                        index,
+                        detail_at,
+                        len_at,
+                    )
+                }
+                Call::Id(index) => {
+                    yokberd_checked_format_id(types, types_len, ids, ids_len, places, count, at, room, flags, pointer_size, index, detail_at, len_at)
+                }
+                Call::Type(index) => yokberd_checked_format_type(types, types_len, places, count, at, room, flags, pointer_size, index, detail_at, len_at),
+                Call::Size(index) => {
+                    let number = yokberd_checked_get_type_size(types, types_len, places, count, pointer_size, index, detail_at, &mut size);
+                    return told(number, detail, size);
+                }
+            };
+            told(number, detail, text_len as u64)
+        }
+    }
+}
