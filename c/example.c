@@ -1,4 +1,4 @@
-/* Prints every id of a pair of streams with its text, then asks for a size, and answers a sheet.
+/* Prints every id of a pair of streams with its text, over streams that were checked once; then plain calls, and a sheet.
  *
  *     example TYPES IDS
  *
@@ -49,12 +49,31 @@ static int all(const uint8_t *out, size_t from, uint8_t byte) {
     return 1;
 }
 
-static int print_id(struct bytes types, struct bytes ids, uint32_t index) {
+struct checked {
+    uint32_t *at;
+    size_t len;
+};
+
+/* Both streams checked once, for many calls: as many numbers as serve. */
+static struct checked check(struct bytes types, struct bytes ids) {
+    uint32_t few[YOKBERD_CHECKED];
+    struct checked checked = {NULL, yokberd_check_streams(types.at, types.len, ids.at, ids.len, 8, few, YOKBERD_CHECKED)};
+    checked.at = malloc(checked.len * sizeof *checked.at);
+    if (checked.at == NULL) {
+        fprintf(stderr, "example: no memory\n");
+        exit(2);
+    }
+    yokberd_check_streams(types.at, types.len, ids.at, ids.len, 8, checked.at, checked.len);
+    return checked;
+}
+
+static int print_id(struct bytes types, struct bytes ids, struct checked checked, uint32_t index) {
     uint8_t out[ROOM];
     uint32_t detail;
     size_t text_len;
     memset(out, 0xaa, ROOM);
-    uint32_t number = yokberd_format_id(types.at, types.len, ids.at, ids.len, out, ROOM, ID_FLAGS, 8, index, &detail, &text_len);
+    uint32_t number = yokberd_checked_format_id(types.at, types.len, ids.at, ids.len, checked.at, checked.len, out, ROOM, ID_FLAGS, 8, index, &detail,
+                                                &text_len);
     if (number == YOKBERD_ACCEPTED) {
         printf("0x%x %.*s\n", (unsigned)index, (int)text_len, (const char *)out);
         return detail == 0 && all(out, text_len, 0xaa);
@@ -113,13 +132,15 @@ int main(int argc, char **argv) {
         return 2;
     }
     struct bytes types = read_file(argv[1]), ids = read_file(argv[2]);
+    struct checked checked = check(types, ids);
     int good = ids.len >= HEADER;
     /* bytes 8 and 12 of the header have the first index and the one behind the last */
     for (uint32_t index = good ? word(ids.at + 8) : 0; good && index < word(ids.at + 12); index++)
-        good = print_id(types, ids, index);
+        good = print_id(types, ids, checked, index);
     good = good && print_function(types, "advance", 0x1001) && print_type(types, 0x640) && print_sheet(types, ids);
     free(types.at);
     free(ids.at);
+    free(checked.at);
     if (!good)
         fprintf(stderr, "example: a buffer or a number is not what yokberd.h says\n");
     return good ? 0 : 1;

@@ -5,13 +5,25 @@
  *
  * What a call asks of its caller is what C cannot state in a type:
  *
- * - No pointer is null, one with a length of 0 too. Each points to as many bytes as its length says; a length is at most PTRDIFF_MAX.
- * - What a call writes (out, detail, text_len, size, bytes, lines) overlaps nothing else that it is lent, and no other thread touches it during the call.
- *   What it only reads is changed by no one during the call. Calls from any number of threads may share what is only read.
+ * - No pointer is null, one with a length of 0 too. Each is aligned and points to as many elements as its length says, of at most PTRDIFF_MAX bytes.
+ * - What a call writes (out, checked where it is filled, detail, text_len, size, bytes, lines) overlaps nothing else that it is lent, and no other thread
+ *   touches it during the call. What it only reads is changed by no one during the call. Calls from any number of threads may share what is only read.
  * - 512 KiB of stack. A thread of glibc has 8 MiB where nothing else is said.
  *
- * A call keeps nothing, allocates nothing and calls nothing but memcpy and memset. It takes time by the length of its text and of its streams together, and
- * a hostile stream can ask for a text that fills any buffer: where streams come from elsewhere, lend a small one.
+ * A call keeps nothing, allocates nothing and calls nothing but memcpy and memset.
+ *
+ * Time. The plain calls pass over all records of their streams first, to check them. For many calls over the same streams check these once, below: then a
+ * call takes as long as its text asks for, however long the streams are; or put the calls into a sheet. (docs/BENCHMARKS.md has figures.)
+ *
+ * Streams that are made to take long are bounded by a product. For each byte of text that out has room for, a call opens at most 95 indexes. To open one it
+ * passes over the records from the nearest noted place on, at most as many as these are apart (stride less one; in a plain call and a sheet up to a 128th
+ * of the stream's records), compares the index with those that are open, at most 96, and reads the record, which can have a name of 65,000 bytes. For each
+ * array that it writes, which takes two bytes of text at least, it can pass once over all records behind the declaration of a struct, to find its
+ * definition. So
+ *
+ *     time of a call <= the check + out_len * (95 openings + half a pass over the type stream)
+ *
+ * and what a caller can choose is out_len: where streams come from elsewhere, lend a small buffer.
  */
 #ifndef YOKBERD_H
 #define YOKBERD_H
@@ -81,6 +93,42 @@ uint32_t yokberd_format_type(const uint8_t *types, size_t types_len, uint8_t *ou
  * YOKBERD_CHAIN_TOO_LONG, *detail is its detail, *size is 0.
  */
 uint32_t yokberd_get_type_size(const uint8_t *types, size_t types_len, uint32_t pointer_size, uint32_t index, uint32_t *detail, uint64_t *size);
+
+/* Streams checked once, for many calls over the same bytes.
+ *
+ * yokberd_check_streams checks both streams in one pass over their records, and notes in checked what the four calls below it go by: the bounds of both
+ * streams, and the places of records from which a look-up starts. Where a program has no ids, lend no bytes of them.
+ *
+ *   stride          how many records apart the noted places are: 8 serves best. 0: as near as there are numbers for
+ *   checked         the numbers to fill: YOKBERD_CHECKED at least, and one for each place
+ *
+ * Returns how many numbers serve for these streams and this stride. Lend that many: where it is more than checked_len, make a longer array and check again.
+ * With fewer every answer is the same, and takes longer.
+ *
+ * Over what yokberd_check_streams left in checked for the same bytes, the four calls answer what the plain calls answer, and leave out as they do: a stream
+ * that was refused is refused by each call. So keep checked beside the bytes, and check again where these change.
+ *
+ * They are safe with any other numbers too. Whatever checked holds, a call ends, reads and writes nothing but what it is lent, and is accepted or refused
+ * by the numbers above; an array that was never filled, of zeros or of fewer than YOKBERD_CHECKED numbers, is refused as a broken type stream is,
+ * YOKBERD_HEADER.
+ */
+#define YOKBERD_CHECKED 20
+size_t yokberd_check_streams(const uint8_t *types, size_t types_len, const uint8_t *ids, size_t ids_len, uint32_t stride, uint32_t *checked,
+                             size_t checked_len);
+
+uint32_t yokberd_checked_format_function(const uint8_t *types, size_t types_len, const uint32_t *checked, size_t checked_len, uint8_t *out,
+                                         size_t out_len, uint32_t flags, uint32_t pointer_size, const uint8_t *name, size_t name_len, uint32_t index,
+                                         uint32_t *detail, size_t *text_len);
+
+uint32_t yokberd_checked_format_id(const uint8_t *types, size_t types_len, const uint8_t *ids, size_t ids_len, const uint32_t *checked,
+                                   size_t checked_len, uint8_t *out, size_t out_len, uint32_t flags, uint32_t pointer_size, uint32_t index,
+                                   uint32_t *detail, size_t *text_len);
+
+uint32_t yokberd_checked_format_type(const uint8_t *types, size_t types_len, const uint32_t *checked, size_t checked_len, uint8_t *out, size_t out_len,
+                                     uint32_t flags, uint32_t pointer_size, uint32_t index, uint32_t *detail, size_t *text_len);
+
+uint32_t yokberd_checked_get_type_size(const uint8_t *types, size_t types_len, const uint32_t *checked, size_t checked_len, uint32_t pointer_size,
+                                       uint32_t index, uint32_t *detail, uint64_t *size);
 
 /* Many calls in one, with each stream checked once. A sheet is a list of commands, numbers little-endian:
  *

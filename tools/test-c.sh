@@ -1,7 +1,8 @@
 #!/bin/sh
 # Compiles c/example.c against c/yokberd.h and the library, runs it on a shipped pair of streams, and compares what it prints: the ids with the lines of
-# crates/test_vectors/stdout, which a reading of document 01 in Python made, the rest with lines worked out by hand. Then once more under a sanitizer, and, where
-# it is installed, under valgrind.
+# crates/test_vectors/stdout, which a reading of document 01 in Python made, the rest with lines worked out by hand. Then c/checked.c on all shipped pairs and
+# damaged copies: calls over streams checked once against the plain ones, and over any numbers. Both once more under a sanitizer, and, where it is installed,
+# under valgrind.
 #
 #     rt staticlib yokberd && tools/test-c.sh
 #
@@ -9,12 +10,13 @@
 set -eu
 root=$(cd "$(dirname "$0")/.." && pwd)
 cd "$root"
-archive=target/staticlib/libyokberd.a
+archive=${YOKBERD_LIB_DIR:-target/staticlib}/libyokberd.a
 [ -f "$archive" ] || { echo "test-c: $archive is not there: run rt staticlib yokberd" >&2; exit 1; }
 work=$(mktemp -d)
 trap 'rm -rf "$work"' EXIT
 cc=${CC:-cc}
 pair=crates/test_vectors/data/overloads
+pairs=$(for types in crates/test_vectors/data/*-types.bin; do echo "$types" "${types%-types.bin}-ids.bin"; done)
 
 # the section of `overloads` with the example's flags, 0x1e
 awk '/^== /{on = $2 == "overloads"; ids = 0; next} !/^0x/{ids = on && $0 == "ids flags 0x1e"; next} ids && $2 == 0 {sub(/ 0 0x0 /, " "); print}' \
@@ -53,11 +55,21 @@ if command -v c++ >/dev/null; then
     c++ -Wall -Wextra -Wpedantic -Werror -fsyntax-only -x c++ c/yokberd.h
     echo "test-c: the header is C++ too"
 fi
-"$cc" -std=c99 -g -fsanitize=address,undefined -fno-sanitize-recover=all -Ic -o "$work/sanitized" c/example.c "$archive"
-compare "$work/sanitized"
-echo "test-c: the same with the address and undefined behaviour sanitizers"
-if command -v valgrind >/dev/null; then
-    compare valgrind -q --error-exitcode=1 --leak-check=full "$work/example"
-    echo "test-c: the same under valgrind"
-fi
+# shellcheck disable=SC2086
+{
+    "$cc" -std=c99 -Wall -Wextra -Wpedantic -Werror -O2 -Ic -o "$work/checked" c/checked.c "$archive"
+    "$work/checked" $pairs >"$work/said"
+    echo "test-c: streams checked once: $(cat "$work/said")"
+    sanitized="$cc -std=c99 -g -fsanitize=address,undefined -fno-sanitize-recover=all -Ic"
+    $sanitized -o "$work/sanitized" c/example.c "$archive"
+    compare "$work/sanitized"
+    $sanitized -o "$work/checked-sanitized" c/checked.c "$archive"
+    "$work/checked-sanitized" $pairs >/dev/null
+    echo "test-c: the same with the address and undefined behaviour sanitizers"
+    if command -v valgrind >/dev/null; then
+        compare valgrind -q --error-exitcode=1 --leak-check=full "$work/example"
+        valgrind -q --error-exitcode=1 --leak-check=full "$work/checked" $pairs >/dev/null
+        echo "test-c: the same under valgrind"
+    fi
+}
 echo "test-c: passed"
