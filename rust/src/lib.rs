@@ -23,7 +23,7 @@
 //! # Time
 //!
 //! A [`TypeFormatter`] passes over the records of both streams once, when it is made. Its calls do not: on real streams a call takes as long as its text
-//! asks for, some ten nanoseconds for a byte, however long the streams are. docs/BENCHMARKS.md has figures, beside those of the original.
+//! asks for, however long the streams are. docs/BENCHMARKS.md has figures, beside those of the original.
 //!
 //! Streams that are made to take long are bounded by a product. For each byte of text that there is room for, a call opens at most 95 indexes. To open one
 //! it passes at most 7 records from a noted place, compares the index with those that are open, at most 96, and reads the record, which can have a name of

@@ -1,4 +1,6 @@
 //! Time and stack of the calls, side by side with the original, as Markdown tables. `tools/bench.sh` runs it; docs/BENCHMARKS.md has the figures of one run.
+//!
+//! A number as argument is the most bytes of a generated stream: with 0 there are the shipped streams only.
 #[path = "../../tests/original/asked.rs"]
 mod asked;
 #[path = "../../tests/common/mod.rs"]
@@ -38,7 +40,9 @@ fn main() {
     }
     let mut rows: Vec<_> = common::real_streams().iter().flat_map(side_by_side::compared).collect();
     side_by_side::print("Shipped streams, in microseconds", &rows);
-    let generated: Vec<_> = SIZES.into_iter().flat_map(|size| side_by_side::compared(&generated::streams(size))).collect();
+    let most = env::args().find_map(|argument| argument.parse().ok()).unwrap_or(usize::MAX);
+    let sizes = SIZES.into_iter().filter(|size| *size <= most);
+    let generated: Vec<_> = sizes.flat_map(|size| side_by_side::compared(&generated::streams(size))).collect();
     side_by_side::print("Generated streams, in microseconds", &generated);
     side_by_side::print_growth(&generated);
     rows.extend(generated);
