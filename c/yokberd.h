@@ -112,7 +112,7 @@ uint32_t yokberd_get_type_size(const uint8_t *types, size_t types_len, uint32_t 
  * by the numbers above; an array that was never filled, of zeros or of fewer than YOKBERD_CHECKED numbers, is refused as a broken type stream is,
  * YOKBERD_HEADER.
  */
-#define YOKBERD_CHECKED 20
+#define YOKBERD_CHECKED 19
 size_t yokberd_check_streams(const uint8_t *types, size_t types_len, const uint8_t *ids, size_t ids_len, uint32_t stride, uint32_t *checked,
                              size_t checked_len);
 

@@ -16,23 +16,26 @@ check-call-requires c κs = search needs
 enum-known-call : tie.Need-enum-known-call
 enum-known-call c = search needs
 
-enum-known-u : tie.Need-enum-known-u
-enum-known-u c = search needs
+check-in-requires : tie.Need-check-in-requires
+check-in-requires c κs = search needs
 
-enum-known-u-2 : tie.Need-enum-known-u-2
-enum-known-u-2 c = search needs
+enum-told : tie.Need-enum-told
+enum-told c = search needs
 
 enum-known-f : tie.Need-enum-known-f
 enum-known-f c = search needs
 
+enum-known-f-2 : tie.Need-enum-known-f-2
+enum-known-f-2 c = search needs
+
 returns : tie.Need-returns
-returns c = sym (ap (withIds _) (c .before .before .before .u .given .1)) ∙ ids-good _ _ _ _ (c .before .before .before .before .before .before .before .before .check-call .ensures) (c .before .before .before .before .before .before .call .given .1)
+returns c = sym (ap (withIds _) (sym (c .before .before .check-in .ensures) ∙ c .enum-told .given .1)) ∙ ids-good _ _ _ _ (c .before .before .before .before .before .before .check-call .ensures) (c .before .before .before .before .call .given .1)
 
 returns-2 : tie.Need-returns-2
-returns-2 c = sym (ap (withIds _) (c .before .u2 .given .1)) ∙ ids-good _ _ _ _ (c .before .before .before .before .before .before .check-call .ensures) (c .before .before .before .before .call .given .1)
+returns-2 c = sym (ap (withIds _) (sym (c .before .before .before .check-in .ensures) ∙ c .before .f .given .1)) ∙ ids-good _ _ _ _ (c .before .before .before .before .before .before .before .check-call .ensures) (c .before .before .before .before .before .call .given .1)
 
 returns-3 : tie.Need-returns-3
-returns-3 c = ids-refused _ _ _ _ (c .before .before .before .check-call .ensures) (c .before .f .given .1)
+returns-3 c = ids-refused _ _ _ _ (c .before .before .before .check-call .ensures) (c .before .f2 .given .1)
 
 pub check-id-call-spec : {M : Type 1} → statement M
 check-id-call-spec =
@@ -40,9 +43,10 @@ check-id-call-spec =
     (tie.spec
     check-call-requires
     enum-known-call
-    enum-known-u
-    enum-known-u-2
+    check-in-requires
+    enum-told
     enum-known-f
+    enum-known-f-2
     returns
     returns-2
     returns-3)

@@ -13,19 +13,22 @@ use Rattle.checked_calls.proofs.calls.is_pointer_size.Reads as is-point
 is-pointer-size-requires : tie.Need-is-pointer-size-requires
 is-pointer-size-requires c κs = search needs
 
-enum-known-t : tie.Need-enum-known-t
-enum-known-t c = search needs
+check-in-requires : tie.Need-check-in-requires
+check-in-requires c κs = search needs
 
-enum-known-t-2 : tie.Need-enum-known-t-2
-enum-known-t-2 c = search needs
+enum-told : tie.Need-enum-told
+enum-told c = search needs
+
+enum-known-f : tie.Need-enum-known-f
+enum-known-f c = search needs
 
 returns : tie.Need-returns
 unfolding typesBy sized
-returns c = rw (sym (c .before .before .before .before .is-pointer-size .ensures) ∙ c .before .before .before .if1 .taken, c .before .t .given .1) refl
+returns c = rw (sym (c .before .before .before .before .is-pointer-size .ensures) ∙ c .before .before .before .if1 .taken, sym (c .before .before .check-in .ensures) ∙ c .enum-told .given .1) refl
 
 returns-2 : tie.Need-returns-2
 unfolding typesBy sized
-returns-2 c = rw (sym (c .before .before .before .before .is-pointer-size .ensures) ∙ c .before .before .before .if1 .taken, c .before .t2 .given .1) refl
+returns-2 c = rw (sym (c .before .before .before .before .before .is-pointer-size .ensures) ∙ c .before .before .before .before .if1 .taken, sym (c .before .before .before .check-in .ensures) ∙ c .before .f .given .1) refl
 
 returns-3 : tie.Need-returns-3
 unfolding typesBy sized
@@ -34,4 +37,11 @@ returns-3 c = rw (sym (c .before .is-pointer-size .ensures) ∙ c .if1 .left) re
 pub check-types-spec : {M : Type 1} → statement M
 check-types-spec =
     tie.close
-    (tie.spec is-pointer-size-requires enum-known-t enum-known-t-2 returns returns-2 returns-3)
+    (tie.spec
+    is-pointer-size-requires
+    check-in-requires
+    enum-told
+    enum-known-f
+    returns
+    returns-2
+    returns-3)

@@ -38,13 +38,13 @@ same-length : tie.Need-same-length
 same-length c = search needs
 
 returns : tie.Need-returns
-returns c = c .before .before .close .ensures ∙ id-is _ _ _ _ _ _ (c .before .before .before .before .before .before .before .before .before .before .before .before .check-id-call .ensures) _ (c .before .before .before .before .before .before .before .before .before .before .call .given .1) (c .before .before .before .before .before .before .emit-id .ensures) (c .before .before .before .before .before .before .before .before .start .ensures)
+returns c = c .before .before .close .ensures ∙ id-is _ _ _ _ _ (c .before .before .before .before .before .before .before .before .before .before .before .before .check-id-call .ensures) _ (c .before .before .before .before .before .before .before .before .before .before .call .given .1) (c .before .before .before .before .before .before .emit-id .ensures) (c .before .before .before .before .before .before .before .before .start .ensures)
 
 same-length-2 : tie.Need-same-length-2
 same-length-2 c = search needs
 
 returns-2 : tie.Need-returns-2
-returns-2 c = c .before .before .refuse-call .ensures ∙ id-refused _ _ _ _ _ _ (c .before .before .before .before .before .before .before .check-id-call .ensures) _ _ (c .before .before .before .before .before .f .given .1)
+returns-2 c = c .before .before .refuse-call .ensures ∙ id-refused _ _ _ _ _ (c .before .before .before .before .before .before .before .check-id-call .ensures) _ _ (c .before .before .before .before .before .f .given .1)
 
 pub id-over-spec : {M : Type 1} → statement M
 id-over-spec =
