@@ -32,7 +32,7 @@ fn record_count(s: &[u8]) -> u32
 }
 
 fn places_for(stride: u32, n: u32) -> usize
-    ensures { λ r. ⌜ r ≡ placesFor stride n ⌝ }
+    ensures { λ r. ⌜ (r ≡ placesFor stride n) × (r ≤ 0x2_0000_0000) ⌝ }
 {
     if stride == 0 {
         return 0;

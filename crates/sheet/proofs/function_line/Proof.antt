@@ -14,7 +14,7 @@ use Rattle.sheet.proofs.given_name.Reads as given-name-reads
 use Rattle.sheet.proofs.write_answer.Reads as write-answer-reads
 
 add-given-name : tie.Need-add-given-name
-add-given-name c = omega (arith, c .before .before .before .before .before .pre)
+add-given-name c = omega (arith, c .before .before .before .before .before .before .before .pre)
 
 given-name-requires : tie.Need-given-name-requires
 given-name-requires c κs = search needs
@@ -23,13 +23,13 @@ function-over-requires : tie.Need-function-over-requires
 function-over-requires c κs = search needs
 
 add-write-answer : tie.Need-add-write-answer
-add-write-answer c = omega (arith, c .before .before .before .before .before .before .before .before .before .before .before .before .pre)
+add-write-answer c = omega (arith, c .before .before .before .before .before .before .before .before .before .before .before .before .before .before .pre)
 
 write-answer-requires : tie.Need-write-answer-requires
-write-answer-requires c κs = omega (arith, c .before .before .before .before .before .before .before .before .before .before .before .before .before .pre)
+write-answer-requires c κs = omega (arith, c .before .before .before .before .before .before .before .before .before .before .before .before .before .before .before .pre)
 
 returns : tie.Need-returns
-returns c = whole-as (answer-line _ _ _ _ _ (c .before .before .before .before .before .before .before .before .function-over .ensures) ∙ ap (outcomeLine _) (function-outcome _ (c .before .before .before .before .before .before .before .before .before .before .before .before .before .before .before .before .pre .0) _ _ _ _ _ (c .before .before .before .before .before .before .before .before .before .before .given-name .ensures) (c .before .before .before .before .before .before .before .before .before .before .before .before .before .before .before .before .pre .1 .1 .0))) (c .before .before .write-answer .ensures)
+returns c = whole-as (answer-line _ _ _ _ _ (c .before .before .before .before .before .before .before .before .function-over .ensures) ∙ ap (outcomeLine _) (function-outcome _ (c .before .before .before .before .before .before .before .before .before .before .before .before .before .before .before .before .before .before .pre .0) _ _ _ _ _ (c .before .before .before .before .before .before .before .before .before .before .given-name .ensures) (c .before .before .before .before .before .before .before .before .before .before .before .before .before .before .before .before .before .before .pre .1 .1 .0))) (c .before .before .write-answer .ensures)
 
 same-length : tie.Need-same-length
 same-length c = search needs

@@ -18,7 +18,7 @@ use Rattle.sheet.proofs.write_refused.Reads as write-refused-reads
 use Rattle.sheet.proofs.write_size.Reads as write-size-reads
 
 add-number : tie.Need-add-number
-add-number c = omega (arith, c .before .before .before .before .before .before .pre)
+add-number c = omega (arith, c .before .before .before .before .before .before .before .before .pre)
 
 enum-known-c : tie.Need-enum-known-c
 enum-known-c c = search needs
@@ -27,7 +27,7 @@ type-over-requires : tie.Need-type-over-requires
 type-over-requires c κs = search needs
 
 write-answer-requires : tie.Need-write-answer-requires
-write-answer-requires c κs = omega (arith, c .before .before .before .before .before .before .before .before .before .before .before .before .before .before .before .pre)
+write-answer-requires c κs = omega (arith, c .before .before .before .before .before .before .before .before .before .before .before .before .before .before .before .before .before .pre)
 
 enum-known-c-2 : tie.Need-enum-known-c-2
 enum-known-c-2 c = search needs
@@ -36,13 +36,13 @@ id-over-requires : tie.Need-id-over-requires
 id-over-requires c κs = search needs
 
 write-answer-requires-2 : tie.Need-write-answer-requires-2
-write-answer-requires-2 c κs = omega (arith, c .before .before .before .before .before .before .before .before .before .before .before .before .before .before .before .pre)
+write-answer-requires-2 c κs = omega (arith, c .before .before .before .before .before .before .before .before .before .before .before .before .before .before .before .before .before .pre)
 
 enum-known-c-3 : tie.Need-enum-known-c-3
 enum-known-c-3 c = search needs
 
 function-line-requires : tie.Need-function-line-requires
-function-line-requires c κs = (c .before .before .before .before .before .before .before .before .before .before .before .pre .0, c .before .before .before .before .before .before .before .before .before .before .before .pre .1 .1)
+function-line-requires c κs = (c .before .before .before .before .before .before .before .before .before .before .before .before .before .pre .0, c .before .before .before .before .before .before .before .before .before .before .before .before .before .pre .1 .1)
 
 enum-known-c-4 : tie.Need-enum-known-c-4
 enum-known-c-4 c = search needs
@@ -51,13 +51,13 @@ size-over-requires : tie.Need-size-over-requires
 size-over-requires c κs = search needs
 
 write-size-requires : tie.Need-write-size-requires
-write-size-requires c κs = omega (arith, c .before .before .before .before .before .before .before .before .before .before .before .pre)
+write-size-requires c κs = omega (arith, c .before .before .before .before .before .before .before .before .before .before .before .before .before .pre)
 
 enum-known-c-5 : tie.Need-enum-known-c-5
 enum-known-c-5 c = search needs
 
 write-refused-requires : tie.Need-write-refused-requires
-write-refused-requires c κs = omega (arith, c .before .before .before .before .before .before .before .before .before .before .pre)
+write-refused-requires c κs = omega (arith, c .before .before .before .before .before .before .before .before .before .before .before .before .pre)
 
 enum-told : tie.Need-enum-told
 enum-told c = search needs
@@ -69,16 +69,16 @@ enum-known-c-7 : tie.Need-enum-known-c-7
 enum-known-c-7 c = search needs
 
 returns : tie.Need-returns
-returns c = whole-as (answer-line _ _ _ _ _ (c .before .before .before .before .before .before .before .type-over .ensures) ∙ ap (outcomeLine _) (type-outcome _ (c .before .before .before .before .before .before .before .before .before .before .before .before .before .before .before .before .before .before .pre .0) _ _ _ (c .before .before .before .before .before .before .before .before .before .before .before .before .before .before .before .before .before .before .pre .1 .1 .1 .0)) ∙ line-type _ _ _ _ _ _ (c .before .before .before .before .before .before .before .before .before .before .c .given .1)) (c .before .before .write-answer .ensures)
+returns c = whole-as (answer-line _ _ _ _ _ (c .before .before .before .before .before .before .before .type-over .ensures) ∙ ap (outcomeLine _) (type-outcome _ (c .before .before .before .before .before .before .before .before .before .before .before .before .before .before .before .before .before .before .before .before .pre .0) _ _ _ (c .before .before .before .before .before .before .before .before .before .before .before .before .before .before .before .before .before .before .before .before .pre .1 .1 .1 .0)) ∙ line-type _ _ _ _ _ _ (c .before .before .before .before .before .before .before .before .before .before .c .given .1)) (c .before .before .write-answer .ensures)
 
 returns-2 : tie.Need-returns-2
-returns-2 c = whole-as (answer-line _ _ _ _ _ (c .before .before .before .before .before .before .before .id-over .ensures) ∙ ap (outcomeLine _) (id-outcome _ (c .before .before .before .before .before .before .before .before .before .before .before .before .before .before .before .before .before .before .pre .0) _ (c .before .before .before .before .before .before .before .before .before .before .before .before .before .before .before .before .before .before .pre .1 .0) _ _ _ (c .before .before .before .before .before .before .before .before .before .before .before .before .before .before .before .before .before .before .pre .1 .1 .1 .0)) ∙ line-id _ _ _ _ _ _ (c .before .before .before .before .before .before .before .before .before .before .c2 .given .1)) (c .before .before .write-answer2 .ensures)
+returns-2 c = whole-as (answer-line _ _ _ _ _ (c .before .before .before .before .before .before .before .id-over .ensures) ∙ ap (outcomeLine _) (id-outcome _ (c .before .before .before .before .before .before .before .before .before .before .before .before .before .before .before .before .before .before .before .before .pre .0) _ (c .before .before .before .before .before .before .before .before .before .before .before .before .before .before .before .before .before .before .before .before .pre .1 .0) _ _ _ (c .before .before .before .before .before .before .before .before .before .before .before .before .before .before .before .before .before .before .before .before .pre .1 .1 .1 .0)) ∙ line-id _ _ _ _ _ _ (c .before .before .before .before .before .before .before .before .before .before .c2 .given .1)) (c .before .before .write-answer2 .ensures)
 
 returns-3 : tie.Need-returns-3
 returns-3 c = whole-as (line-function _ _ _ _ _ _ (c .before .before .before .before .before .before .before .before .c3 .given .1)) (c .before .before .before .before .function-line .ensures)
 
 returns-4 : tie.Need-returns-4
-returns-4 c = whole-as (ap (sizeLine _) (size-outcome _ (c .before .before .before .before .before .before .before .before .before .before .before .before .before .before .pre .0) _ _ _ (c .before .before .before .size-over .ensures)) ∙ line-size _ _ _ _ _ _ (c .before .before .before .before .before .before .c4 .given .1)) (c .before .before .write-size .ensures)
+returns-4 c = whole-as (ap (sizeLine _) (size-outcome _ (c .before .before .before .before .before .before .before .before .before .before .before .before .before .before .before .before .pre .0) _ _ _ (c .before .before .before .size-over .ensures)) ∙ line-size _ _ _ _ _ _ (c .before .before .before .before .before .before .c4 .given .1)) (c .before .before .write-size .ensures)
 
 returns-5 : tie.Need-returns-5
 returns-5 c = whole-as (line-faulty _ _ _ _ _ _ (c .before .before .before .before .before .c5 .given .1)) (c .before .before .write-refused .ensures)

@@ -8,13 +8,13 @@ use Rattle.sheet.proofs.print_sheet.Tie as tie
 use Rattle.sheet.proofs.print_sheet.Reads as reads
 use Rattle.sheet.proofs.print_sheet.Lts as lts
 use Rattle.sheet.proofs.put_lines.Reads as put-lines-reads
-use Rattle.streams.proofs.stream.check_stream.Reads as check-stream-reads
+use Rattle.checked_calls.proofs.kept.keep_both.Reads as keep-both-reads
 
-check-stream-requires : tie.Need-check-stream-requires
-check-stream-requires c κs = search needs
+slice-aggregate-keep-both : tie.Need-slice-aggregate-keep-both
+slice-aggregate-keep-both c = search needs
 
-check-stream-requires-2 : tie.Need-check-stream-requires-2
-check-stream-requires-2 c κs = search needs
+keep-both-requires : tie.Need-keep-both-requires
+keep-both-requires c κs = search needs
 
 slice-aggregate-put-lines : tie.Need-slice-aggregate-put-lines
 slice-aggregate-put-lines c = search needs
@@ -22,8 +22,14 @@ slice-aggregate-put-lines c = search needs
 slice-aggregate-put-lines-2 : tie.Need-slice-aggregate-put-lines-2
 slice-aggregate-put-lines-2 c = search needs
 
+slice-aggregate-put-lines-3 : tie.Need-slice-aggregate-put-lines-3
+slice-aggregate-put-lines-3 c = search needs
+
+slice-aggregate-put-lines-4 : tie.Need-slice-aggregate-put-lines-4
+slice-aggregate-put-lines-4 c = search needs
+
 put-lines-requires : tie.Need-put-lines-requires
-put-lines-requires c κs = (c .before .before .before .before .check-stream .ensures, (c .before .before .before .check-stream2 .ensures, (search needs, search needs)))
+put-lines-requires c κs = (c .before .before .before .before .before .before .keep-both .ensures .ofTypes, (c .before .before .before .before .before .before .keep-both .ensures .ofIds, (search needs, search needs)))
 
 returns : tie.Need-returns
 returns c = (c .before .before .before .before .put-lines .ensures, continues _ _ _ (sheet-short _ _ _))
@@ -35,10 +41,12 @@ pub print-sheet-spec : {M : Type 1} → statement M
 print-sheet-spec =
     tie.close
     (tie.spec
-    check-stream-requires
-    check-stream-requires-2
+    slice-aggregate-keep-both
+    keep-both-requires
     slice-aggregate-put-lines
     slice-aggregate-put-lines-2
+    slice-aggregate-put-lines-3
+    slice-aggregate-put-lines-4
     put-lines-requires
     same-length
     returns)

@@ -21,10 +21,10 @@ use Rattle.sheet.proofs.step_of.Reads as step-of-reads
 use Rattle.sheet.proofs.first_state.Reads as first-state-reads
 
 abbrev Inv-loop : tie.InvT-loop
-Inv-loop types ids sheet t u line₀ text₀ out₀ skip p₀ s₀ line text out p s = Going types ids sheet out₀ skip out p s × ((length line ≡ length line₀) × (length text ≡ length text₀))
+Inv-loop types ids sheet bounds places line₀ text₀ out₀ skip p₀ s₀ line text out p s = Going types ids sheet out₀ skip out p s × ((length line ≡ length line₀) × (length text ≡ length text₀))
 
 abbrev μ-loop : tie.MeasureT-loop
-μ-loop types ids sheet t u line₀ text₀ out₀ skip p₀ s₀ line text out p s = length sheet - s .at
+μ-loop types ids sheet bounds places line₀ text₀ out₀ skip p₀ s₀ line text out p s = length sheet - s .at
 
 start-requires : tie.Need-start-requires Inv-loop μ-loop
 start-requires c κs = search needs
@@ -66,7 +66,7 @@ enum-told-3 : tie.Need-enum-told-3 Inv-loop μ-loop
 enum-told-3 c = search needs
 
 put-line-requires : tie.Need-put-line-requires Inv-loop μ-loop
-put-line-requires c κs = (c .before .before .before .before .before .before .before .before .before .before .before .before .before .before .before .before .pre .0, (c .before .before .before .before .before .before .before .before .before .before .before .before .before .before .before .before .pre .1 .0, (omega (arith, c .before .before .before .before .before .before .before .before .before .before .before .before .before .before .before .before .pre .1 .1 .0, c .before .before .before .before .before .before .before .loop .inv .1 .0), (omega (arith, c .before .before .before .before .before .before .before .before .before .before .before .before .before .before .before .before .pre .1 .1 .1, c .before .before .before .before .before .before .before .loop .inv .1 .1), (going-at _ _ _ _ _ (c .before .before .before .before .before .before .before .loop .inv .0), (omega (arith, c .before .before .before .before .before .before .before .loop .inv .0 .short, inside-last _ _ _ _ _ (c .before .before .before .before .before .before .before .loop .inv .0) (c .before .before .before .before .before .before .command-at .ensures) (c .before .before .before .before .before .step-of .ensures) (search (c .before .before .before .enum-told3 .given, needs))), omega (arith, c .before .before .before .before .before .before .before .loop .inv .0 .short, inside-last _ _ _ _ _ (c .before .before .before .before .before .before .before .loop .inv .0) (c .before .before .before .before .before .before .command-at .ensures) (c .before .before .before .before .before .step-of .ensures) (search (c .before .before .before .enum-told3 .given, needs)), c .before .before .before .before .before .before .before .loop .inv .0 .low)))))))
+put-line-requires c κs = (c .before .before .before .before .before .before .before .before .before .before .before .before .before .before .before .before .before .before .pre .0, (c .before .before .before .before .before .before .before .before .before .before .before .before .before .before .before .before .before .before .pre .1 .0, (omega (arith, c .before .before .before .before .before .before .before .before .before .before .before .before .before .before .before .before .before .before .pre .1 .1 .0, c .before .before .before .before .before .before .before .loop .inv .1 .0), (omega (arith, c .before .before .before .before .before .before .before .before .before .before .before .before .before .before .before .before .before .before .pre .1 .1 .1, c .before .before .before .before .before .before .before .loop .inv .1 .1), (going-at _ _ _ _ _ (c .before .before .before .before .before .before .before .loop .inv .0), (omega (arith, c .before .before .before .before .before .before .before .loop .inv .0 .short, inside-last _ _ _ _ _ (c .before .before .before .before .before .before .before .loop .inv .0) (c .before .before .before .before .before .before .command-at .ensures) (c .before .before .before .before .before .step-of .ensures) (search (c .before .before .before .enum-told3 .given, needs))), omega (arith, c .before .before .before .before .before .before .before .loop .inv .0 .short, inside-last _ _ _ _ _ (c .before .before .before .before .before .before .before .loop .inv .0) (c .before .before .before .before .before .before .command-at .ensures) (c .before .before .before .before .before .step-of .ensures) (search (c .before .before .before .enum-told3 .given, needs)), c .before .before .before .before .before .before .before .loop .inv .0 .low)))))))
 
 done-requires-2 : tie.Need-done-requires-2 Inv-loop μ-loop
 done-requires-2 c κs = search needs
@@ -87,7 +87,7 @@ enum-told-4 : tie.Need-enum-told-4 Inv-loop μ-loop
 enum-told-4 c = search needs
 
 put-line-requires-2 : tie.Need-put-line-requires-2 Inv-loop μ-loop
-put-line-requires-2 c κs = (c .before .before .before .before .before .before .before .before .before .before .before .before .before .before .before .before .pre .0, (c .before .before .before .before .before .before .before .before .before .before .before .before .before .before .before .before .pre .1 .0, (omega (arith, c .before .before .before .before .before .before .before .before .before .before .before .before .before .before .before .before .pre .1 .1 .0, c .before .before .before .before .before .before .before .loop .inv .1 .0), (omega (arith, c .before .before .before .before .before .before .before .before .before .before .before .before .before .before .before .before .pre .1 .1 .1, c .before .before .before .before .before .before .before .loop .inv .1 .1), (going-at _ _ _ _ _ (c .before .before .before .before .before .before .before .loop .inv .0), (omega (arith, c .before .before .before .before .before .before .before .loop .inv .0 .short, inside-line _ _ _ _ _ (c .before .before .before .before .before .before .before .loop .inv .0) (c .before .before .before .before .before .before .command-at .ensures) (c .before .before .before .before .before .step-of .ensures) (search (c .before .before .before .enum-told4 .given, needs))), omega (arith, c .before .before .before .before .before .before .before .loop .inv .0 .short, inside-line _ _ _ _ _ (c .before .before .before .before .before .before .before .loop .inv .0) (c .before .before .before .before .before .before .command-at .ensures) (c .before .before .before .before .before .step-of .ensures) (search (c .before .before .before .enum-told4 .given, needs)), c .before .before .before .before .before .before .before .loop .inv .0 .low)))))))
+put-line-requires-2 c κs = (c .before .before .before .before .before .before .before .before .before .before .before .before .before .before .before .before .before .before .pre .0, (c .before .before .before .before .before .before .before .before .before .before .before .before .before .before .before .before .before .before .pre .1 .0, (omega (arith, c .before .before .before .before .before .before .before .before .before .before .before .before .before .before .before .before .before .before .pre .1 .1 .0, c .before .before .before .before .before .before .before .loop .inv .1 .0), (omega (arith, c .before .before .before .before .before .before .before .before .before .before .before .before .before .before .before .before .before .before .pre .1 .1 .1, c .before .before .before .before .before .before .before .loop .inv .1 .1), (going-at _ _ _ _ _ (c .before .before .before .before .before .before .before .loop .inv .0), (omega (arith, c .before .before .before .before .before .before .before .loop .inv .0 .short, inside-line _ _ _ _ _ (c .before .before .before .before .before .before .before .loop .inv .0) (c .before .before .before .before .before .before .command-at .ensures) (c .before .before .before .before .before .step-of .ensures) (search (c .before .before .before .enum-told4 .given, needs))), omega (arith, c .before .before .before .before .before .before .before .loop .inv .0 .short, inside-line _ _ _ _ _ (c .before .before .before .before .before .before .before .loop .inv .0) (c .before .before .before .before .before .before .command-at .ensures) (c .before .before .before .before .before .step-of .ensures) (search (c .before .before .before .enum-told4 .given, needs)), c .before .before .before .before .before .before .before .loop .inv .0 .low)))))))
 
 done-requires-4 : tie.Need-done-requires-4 Inv-loop μ-loop
 done-requires-4 c κs = search needs

@@ -1,0 +1,21 @@
+-- A part up to a stop past the end is the whole.
+-- Assumes nothing.
+use native.Mathlib.Omega.{arith}
+use mathlib.Core.Path.{sym}
+use lib.Seq.{length-take-le}
+use Rattle.streams.proofs.Walk.{take-shorter}
+use borrow.Author.Needs.{needs}
+use Rattle.type_formatter.proofs.checked.numbers_of.Statement.{statement}
+use Rattle.type_formatter.proofs.checked.numbers_of.Tie as tie
+
+shorter-requires : tie.Need-shorter-requires
+shorter-requires c κs = search needs
+
+slice-aggregate-result : tie.Need-slice-aggregate-result
+slice-aggregate-result c = sym (length-take-le _ _ (omega (arith, c .before .shorter .ensures)))
+
+returns : tie.Need-returns
+returns c = rw (c .before .shorter .ensures, take-shorter)
+
+pub numbers-of-spec : {M : Type 1} → statement M
+numbers-of-spec = tie.close (tie.spec shorter-requires slice-aggregate-result returns)
