@@ -45,6 +45,13 @@ text-left buf out a o (e, d) h = (ap (left out) h ∙ e, d)
 pub size-report : {r : Report} (a : SizeAnswer) (s : Size) {D : Type 0} → (ofSizeAnswer a ≡ ofSize s) × D → r ≡ ofSizeAnswer a → (r ≡ ofSize s) × D
 size-report a s (e, d) h = (h ∙ e, d)
 
+-- The same of a call over what is kept of a check: by any numbers, and where these are those of the same bytes.
+pub text-kept : {K : Type 0} (buf out : List ℕ) (a : Answer) (o u : Outcome) {r : Report} → (given out a ≡ laid buf o) × (K → given out a ≡ laid buf u) → r ≡ ofAnswer a → (left out r ≡ laid buf o) × (K → left out r ≡ laid buf u)
+text-kept buf out a o u (e, f) h = (ap (left out) h ∙ e, λ k. ap (left out) h ∙ f k)
+
+pub size-kept : {K : Type 0} {r : Report} (a : SizeAnswer) (s t : Size) → (ofSizeAnswer a ≡ ofSize s) × (K → ofSizeAnswer a ≡ ofSize t) → r ≡ ofSizeAnswer a → (r ≡ ofSize s) × (K → r ≡ ofSize t)
+size-kept a s t (e, f) h = (h ∙ e, λ k. h ∙ f k)
+
 -- What a sheet call leaves, by whether lines are left.
 pub sheet-left : (buf out : List ℕ) (p : Printed) (f : Fit) {b : Bool} {D : Type 0} → (shown out p ≡ laidOut buf f) × D → p .more ≡ b → (counts (pick b 1 0) (p .bytes) (p .lines) ≡ ofFit f) × ((out ≡ laidOut buf f .buf) × D)
 unfolding laidOut ofFit
