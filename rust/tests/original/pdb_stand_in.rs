@@ -1,7 +1,7 @@
 //! What type_formatter.rs takes from the crate `pdb`, written anew from cvinfo.h for well-formed streams.
 //!
 //! The tests hold our texts to the original's over it, and `tools/bench.sh` our times: so records are found and taken apart with as much work as in the
-//! crate, the fields that nobody asks for too.
+//! crate, as far as that is known here, the fields that nobody asks for too.
 //!
 //! Modules and their imports are never asked for: there is no string table, so an index of another module is an error before that.
 use std::borrow::Cow;
@@ -60,7 +60,7 @@ index!(IdIndex);
 
 const FIRST: u32 = 0x1000;
 
-// The crate notes the place of every eighth record that it has passed.
+// A finder notes the place of every eighth record that was passed.
 const STRIDE: u32 = 8;
 
 // A record's kind and fields, given the place of its length.
@@ -70,7 +70,7 @@ fn record_at(records: &[u8], at: usize) -> Result<&[u8]> {
     records.get(at + 2..end).ok_or(Error::UnexpectedEof)
 }
 
-/// The records of a stream, as bytes. It is walked as the crate walks it, record by record up to the one that is asked for, so that times may be compared.
+/// The records of a stream, as bytes. They are walked as `ItemMap` of type_formatter.rs asks for: record by record up to the one that is looked for.
 pub struct Stream<'s, I> {
     records: &'s [u8],
     count: u32,
