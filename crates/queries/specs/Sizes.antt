@@ -1,14 +1,16 @@
 -- Sizes as the code answers them, beside the rules' reading of them. The reading of a size depends neither on the ids nor on what is held.
 use Prim.Native.Nat.{ℕ, zero, suc, _+_, _-_}
 use mathlib.Core.Path.{_≡_}
-use mathlib.Core.Bool.{Bool, _&&_, not}
+use mathlib.Core.Bool.{Bool, true, false, _&&_, _||_, not}
 use mathlib.Core.List.{List, [], _∷_}
-use Rattle.wire.specs.Field.{pick}
+use lib.Dec.{eqb}
+use Rattle.wire.specs.Field.{pick, field}
 use Rattle.streams.specs.declared.refusal.Refusal.{Refusal}
 use Rattle.streams.specs.Bounds.{streamIn}
 use Rattle.streams.specs.declared.refusal.StreamKind.the-variants.{Types}
 use Rattle.streams.specs.declared.stream.Stream.{Stream}
 use Rattle.streams.specs.declared.stream.Cursor.{Cursor}
+use Rattle.codeview.specs.Record.{bit}
 use Rattle.codeview.specs.Read.{typeFrom}
 use Rattle.codeview.specs.declared.record.TypeData.{TypeData}
 use Rattle.codeview.specs.declared.record.TypeRead.{TypeRead}
@@ -70,6 +72,17 @@ pub record FullOf (types : List ℕ) (t : TypeRead) (name : List ℕ) (r : FullR
 
 abbrev pub FullData : List ℕ → TypeData → List ℕ → FullRead → Type 0
 FullData types t name r = FullOf types (Good t) name r
+
+-- The kinds of a class, struct, union and interface; and whether the head of the record at a place shows that it is none of these, or property bit 7,
+-- which marks a forward reference. A head that reaches past the end shows nothing.
+unfoldable pub layoutKind : ℕ → Bool
+layoutKind kind = eqb kind 0x1504 || (eqb kind 0x1505 || (eqb kind 0x1506 || eqb kind 0x1519))
+
+unfoldable pub passedOver : List ℕ → ℕ → Bool
+passedOver s at =
+    field 2 s (at + 2)
+    (λ kind. field 2 s (at + 6) (λ properties. pick (layoutKind kind) (bit 7 properties) true) false)
+    false
 
 -- What so many records from an index on say, each walked to from one start.
 unfoldable pub fullRun : List ℕ → Stream → Cursor → ℕ → ℕ → List ℕ → ℕ → ℕ

@@ -5,7 +5,8 @@ ghost use Rattle.streams.specs.Places.{servesUntil};
 ghost use Rattle.rules.specs.Text.{sameBytes};
 ghost use Rattle.rules.specs.Record.{matchName};
 ghost use Rattle.rules.specs.Places.{near};
-ghost use Rattle.queries.specs.Sizes.{FullLayout, FullOf, FullData, FullSize, FullBetween};
+ghost use Rattle.codeview.specs.Read.{typeIn};
+ghost use Rattle.queries.specs.Sizes.{FullLayout, FullOf, FullData, FullSize, FullBetween, layoutKind, passedOver};
 use codeview::index::TypeIndex;
 use codeview::record::TypeData;
 use codeview::record::TypeRead;
@@ -25,6 +26,9 @@ use streams::stream::CursorRead;
 use streams::stream::Stream;
 use streams::stream::next_cursor;
 use streams::stream::walk_from;
+use wire::field::Field16;
+use wire::field::left;
+use wire::field::u16_at;
 use wire::name::Name;
 
 // What a record says of a forward reference: its size, or nothing.
@@ -101,6 +105,48 @@ fn full_read(types: &[u8], t: TypeRead, name: &[u8]) -> FullRead
     }
 }
 
+// Whether a kind is that of a class, struct, union or interface.
+fn is_layout(kind: u16) -> bool
+    ensures { λ r. ⌜ r ≡ layoutKind kind ⌝ }
+{
+    match kind {
+        0x1504 => true,
+        0x1505 => true,
+        0x1506 => true,
+        0x1519 => true,
+        _ => false,
+    }
+}
+
+// Whether the head of the record at a place shows that it is none of these, or a forward reference. It is told without decoding the record.
+fn passed_over(s: &[u8], at: usize) -> bool
+    ensures { λ r. ⌜ r ≡ passedOver (now (s .entry)) at ⌝ }
+{
+    if left(s.len(), at) < 8 {
+        return false;
+    }
+    let Field16::Value(kind) = u16_at(s, at + 2) else {
+        return false;
+    };
+    let Field16::Value(properties) = u16_at(s, at + 6) else {
+        return false;
+    };
+    if is_layout(kind) {
+        return properties / 128 % 2 == 1;
+    }
+    true
+}
+
+// What the record at a place says.
+fn full_at(types: &[u8], stream: Stream, at: usize, index: u32, name: &[u8]) -> FullRead
+    ensures { λ r. ⌜ FullOf (now (types .entry)) (typeIn (now (types .entry)) stream at index) (now (name .entry)) r ⌝ }
+{
+    if passed_over(types, at) {
+        return FullRead::Other;
+    }
+    full_read(types, type_in(types, stream, at, TypeIndex(index)), name)
+}
+
 fn later(a: u32, b: u32) -> u32
     ensures { λ r. ⌜ r ≡ max a b ⌝ }
 {
@@ -143,8 +189,7 @@ fn full_between(
         if stop <= c.index {
             return FullRead::Other;
         }
-        let t = type_in(types, stream, c.at, TypeIndex(c.index));
-        if let FullRead::Full(size) = full_read(types, t, name) {
+        if let FullRead::Full(size) = full_at(types, stream, c.at, c.index, name) {
             return FullRead::Full(size);
         }
         at = next_cursor(types, stream, c);

@@ -1,7 +1,7 @@
 -- The invariant: what the records from the cursor's index on say is what all say. The measure is what is left of the indexes.
 -- Assumes nothing.
 use Prim.Native.Nat.{_≤_}
-use mathlib.Core.Path.{_≡_}
+use mathlib.Core.Path.{_≡_, refl}
 use Rattle.streams.specs.declared.stream.Cursor.{Cursor}
 use Rattle.streams.proofs.Cursors.{cursorFrom}
 use Rattle.queries.proofs.FullLaws.{Scanning, leftOf, none-at, scan-first, scan-over, scan-past, scan-full, scan-next, scan-less}
@@ -30,17 +30,14 @@ returns c = scan-over _ _ _ _ _ _ (c .before .loop .inv (c .before .before .befo
 returns-2 : tie.Need-returns-2 Inv-loop μ-loop
 returns-2 c = scan-past _ _ _ _ _ _ (c .before .before .before .before .before .loop .inv (c .before .before .before .before .before .before .before .before .before .args .from) (c .before .before .before .before .before .before .before .before .before .pre .1) (c .before .before .before .before .before .before .walk-from .ensures)) (c .before .before .before .at .given .1) (c .if1 .taken)
 
-type-in-requires : tie.Need-type-in-requires Inv-loop μ-loop
-type-in-requires c κs = search needs
-
-full-read-requires : tie.Need-full-read-requires Inv-loop μ-loop
-full-read-requires c κs = search needs
+full-at-requires : tie.Need-full-at-requires Inv-loop μ-loop
+full-at-requires c κs = search needs
 
 enum-known-size : tie.Need-enum-known-size Inv-loop μ-loop
 enum-known-size c = search needs
 
 returns-3 : tie.Need-returns-3 Inv-loop μ-loop
-returns-3 c = scan-full _ _ _ _ _ _ (c .before .before .before .before .before .before .before .before .before .before .loop .inv (c .before .before .before .before .before .before .before .before .before .before .before .before .before .before .args .from) (c .before .before .before .before .before .before .before .before .before .before .before .before .before .before .pre .1) (c .before .before .before .before .before .before .before .before .before .before .before .walk-from .ensures)) (c .before .before .before .before .before .before .before .before .at .given .1) (c .before .before .before .before .before .if1 .left) (c .before .before .before .before .type-in .ensures) (c .before .before .before .full-read .ensures) _ (c .before .size .given .1)
+returns-3 c = scan-full _ _ _ _ _ _ (c .before .before .before .before .before .before .before .before .before .loop .inv (c .before .before .before .before .before .before .before .before .before .before .before .before .before .args .from) (c .before .before .before .before .before .before .before .before .before .before .before .before .before .pre .1) (c .before .before .before .before .before .before .before .before .before .before .walk-from .ensures)) (c .before .before .before .before .before .before .before .at .given .1) (c .before .before .before .before .if1 .left) refl (c .before .before .before .full-at .ensures) _ (c .before .size .given .1)
 
 enum-told : tie.Need-enum-told Inv-loop μ-loop
 enum-told c = search needs
@@ -49,10 +46,10 @@ next-cursor-requires : tie.Need-next-cursor-requires Inv-loop μ-loop
 next-cursor-requires c κs = search needs
 
 loop-less : tie.Need-loop-less Inv-loop μ-loop
-loop-less c = scan-less _ _ _ _ _ _ (c .before .before .before .before .before .before .before .before .before .before .loop .inv (c .before .before .before .before .before .before .before .before .before .before .before .before .before .before .args .from) (c .before .before .before .before .before .before .before .before .before .before .before .before .before .before .pre .1) (c .before .before .before .before .before .before .before .before .before .before .before .walk-from .ensures)) (c .before .before .before .before .before .before .before .before .at .given .1) (c .next-cursor .ensures)
+loop-less c = scan-less _ _ _ _ _ _ (c .before .before .before .before .before .before .before .before .before .loop .inv (c .before .before .before .before .before .before .before .before .before .before .before .before .before .args .from) (c .before .before .before .before .before .before .before .before .before .before .before .before .before .pre .1) (c .before .before .before .before .before .before .before .before .before .before .walk-from .ensures)) (c .before .before .before .before .before .before .before .at .given .1) (c .next-cursor .ensures)
 
 loop-again : tie.Need-loop-again Inv-loop μ-loop
-loop-again c = λ from h e. scan-next _ _ _ _ _ _ (c .before .before .before .before .before .before .before .before .before .before .loop .inv from h e) (c .before .before .before .before .before .before .before .before .at .given .1) (c .before .before .before .before .before .if1 .left) (c .before .before .before .before .type-in .ensures) (c .before .before .before .full-read .ensures) (c .before .enum-told .given .1) (c .next-cursor .ensures)
+loop-again c = λ from h e. scan-next _ _ _ _ _ _ (c .before .before .before .before .before .before .before .before .before .loop .inv from h e) (c .before .before .before .before .before .before .before .at .given .1) (c .before .before .before .before .if1 .left) refl (c .before .before .before .full-at .ensures) (c .before .enum-told .given .1) (c .next-cursor .ensures)
 
 pub full-between-spec : {M : Type 1} → statement M
 full-between-spec =
@@ -65,8 +62,7 @@ full-between-spec =
     enum-known-at
     returns
     returns-2
-    type-in-requires
-    full-read-requires
+    full-at-requires
     enum-known-size
     returns-3
     enum-told
