@@ -32,7 +32,7 @@ same-length-2 : tie.Need-same-length-2
 same-length-2 c = search needs
 
 returns-3 : tie.Need-returns-3
-returns-3 c = record { is = opens-full _ _ _ _ _ (cc) (cc) _ (cc) (c .stopped2 .ensures); small = search (c .before .before .before .before .before .before .before .before .good .1 .1 .1 .1 .0, needs) }
+returns-3 c = record { is = opens-full _ _ _ _ _ (cc) (cc) _ (c .before .if3 .taken) (c .stopped2 .ensures); small = search (c .before .before .before .before .before .before .before .before .good .1 .1 .1 .1 .0, needs) }
 
 way-number-requires : tie.Need-way-number-requires
 way-number-requires c κs = search needs
