@@ -31,11 +31,18 @@ fn start_of(which: StreamKind) -> usize
     }
 }
 
-// The bounds of a stream.
+// The bounds of a stream. (The numbers are all there but in a buffer that is too short.)
 pub fn stream_in(bounds: &[u32], which: StreamKind) -> Stream
     ensures { λ r. ⌜ r ≡ streamIn (now (bounds .entry)) which ⌝ }
 {
     let k = start_of(which);
+    if k + 9 <= bounds.len() {
+        return Stream {
+            first: bounds[k + 1],
+            end: bounds[k + 2],
+            stop: wide(bounds[k + 3]),
+        };
+    }
     let first = number_at(bounds, k + 1);
     let end = number_at(bounds, k + 2);
     let stop = wide(number_at(bounds, k + 3));
@@ -47,6 +54,15 @@ pub fn layout_in(bounds: &[u32], which: StreamKind) -> Layout
     ensures { λ r. ⌜ r ≡ layoutIn (now (bounds .entry)) which ⌝ }
 {
     let k = start_of(which);
+    if k + 9 <= bounds.len() {
+        return Layout {
+            stride: bounds[k + 4],
+            room: bounds[k + 5],
+            second: bounds[k + 6],
+            third: bounds[k + 7],
+            fourth: bounds[k + 8],
+        };
+    }
     let stride = number_at(bounds, k + 4);
     let room = number_at(bounds, k + 5);
     let second = number_at(bounds, k + 6);
