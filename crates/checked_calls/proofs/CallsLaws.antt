@@ -9,7 +9,7 @@ use native.Mathlib.Omega.{arith}
 use borrow.Author.Tests.{le-leb}
 use Rattle.wire.specs.Field.{pick}
 use Rattle.streams.specs.Stream.{checked}
-use Rattle.streams.specs.Bounds.{none, streamIn, layoutIn, checkIn, placesIn}
+use Rattle.streams.specs.Bounds.{none, streamIn, spacingIn, checkIn, placesIn}
 use Rattle.streams.specs.declared.refusal.StreamKind.the-variants.{Types, Ids}
 use Rattle.streams.specs.declared.refusal.Refusal.{Refusal}
 use Rattle.streams.specs.declared.refusal.Refusal.the-variants.{UnknownFlags, PointerSize, ChainTooLong}
@@ -169,14 +169,14 @@ module _ (types : List ℕ) (v : Near) (k : KeptOf Types types v) (t : Stream) (
   unfolding tableIn
   kept-types =
       let s : streamIn (v .bounds) Types ≡ t = k .stream t e in
-      rw s (table-types (layoutIn (v .bounds) Types) (placesIn (v .bounds) (v .places) Types) types t (k .right t e) (layoutIn (v .bounds) Ids) (placesIn (v .bounds) (v .places) Ids) (streamIn (v .bounds) Ids))
+      rw s (table-types (spacingIn (v .bounds) Types) (placesIn (v .bounds) (v .places) Types) types t (k .right t e) (spacingIn (v .bounds) Ids) (placesIn (v .bounds) (v .places) Ids) (streamIn (v .bounds) Ids))
 
   kept-ids : (ids : List ℕ) → KeptOf Ids ids v → (u : Stream) → checked Ids ids ≡ stream.Good u → tableIn types (beside ids v) ≡ tableOf types t ids u
   unfolding tableIn
   kept-ids ids j u f =
       let s : streamIn (v .bounds) Types ≡ t = k .stream t e in
       let w : streamIn (v .bounds) Ids ≡ u = j .stream u f in
-      rw (s, w) (table-right (layoutIn (v .bounds) Types) (placesIn (v .bounds) (v .places) Types) types t (k .right t e) (layoutIn (v .bounds) Ids) (placesIn (v .bounds) (v .places) Ids) ids u (j .right u f))
+      rw (s, w) (table-right (spacingIn (v .bounds) Types) (placesIn (v .bounds) (v .places) Types) types t (k .right t e) (spacingIn (v .bounds) Ids) (placesIn (v .bounds) (v .places) Ids) ids u (j .right u f))
 
 -- What a call reads by the rules, with what is kept of the real checks of its streams.
 module _ (types : List ℕ) (v : Near) (kept : KeptOf Types types v) (size : ℕ) (x : Task) where

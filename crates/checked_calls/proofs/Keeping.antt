@@ -7,10 +7,10 @@ use lib.Seq.{take-all, take-append-seam, drop-append-seam}
 use native.Mathlib.Omega.{arith}
 use Rattle.streams.specs.Stream.{checked}
 use Rattle.streams.specs.Places.{RightFor, NotedFor}
-use Rattle.streams.specs.Bounds.{layoutIn, placesIn, boundsOf}
+use Rattle.streams.specs.Bounds.{spacingIn, placesIn, boundsOf}
 use Rattle.streams.specs.declared.refusal.StreamKind.the-variants.{Types, Ids}
 use Rattle.streams.specs.declared.places.NotedCheck.{NotedCheck}
-use Rattle.streams.proofs.Numbers.{types-back, ids-back, types-layout, ids-layout, types-check, ids-check}
+use Rattle.streams.proofs.Numbers.{types-back, ids-back, types-spacing, ids-spacing, types-check, ids-check}
 use Rattle.rules.specs.Places.{near}
 use Rattle.checked_calls.specs.Kept.{KeptOf, Kept}
 
@@ -22,7 +22,7 @@ module _ (a b : NotedCheck) (split : ℕ) {r : List ℕ} (e : r ≡ boundsOf a b
       (record {
         check = types-check a b split s (n .is) ∙ n .is;
         stream = λ t h. types-back a b split s (n .is) t (n .is ∙ h);
-        right = λ t h. rw (types-layout a b split, f) (n .right t (n .is ∙ h));
+        right = λ t h. rw (types-spacing a b split, f) (n .right t (n .is ∙ h));
       })
 
   kept-ids : (s old new : List ℕ) → NotedFor Ids s old new b → drop split whole ≡ new → KeptOf Ids s (near r whole)
@@ -32,7 +32,7 @@ module _ (a b : NotedCheck) (split : ℕ) {r : List ℕ} (e : r ≡ boundsOf a b
       (record {
         check = ids-check a b split s (n .is) ∙ n .is;
         stream = λ t h. ids-back a b split s (n .is) t (n .is ∙ h);
-        right = λ t h. rw (ids-layout a b split, f) (n .right t (n .is ∙ h));
+        right = λ t h. rw (ids-spacing a b split, f) (n .right t (n .is ∙ h));
       })
 
   pub kept-one : (s old : List ℕ) → NotedFor Types s old whole a → length whole ≤ split → KeptOf Types s (near r whole)

@@ -6,7 +6,7 @@ use mathlib.Core.List.{List}
 use lib.ListN.{length, take, drop, replicate}
 use Rattle.streams.specs.Stream.{header, checked}
 use Rattle.streams.specs.Places.{RightFor}
-use Rattle.streams.specs.Bounds.{streamIn, layoutIn, checkIn, placesIn}
+use Rattle.streams.specs.Bounds.{streamIn, spacingIn, checkIn, placesIn}
 use Rattle.streams.specs.declared.refusal.StreamKind.{StreamKind}
 use Rattle.streams.specs.declared.refusal.StreamKind.the-variants.{Types, Ids}
 use Rattle.streams.specs.declared.stream.Stream.{Stream}
@@ -16,7 +16,7 @@ use Rattle.rules.specs.Places.{Near, near}
 pub record KeptOf (which : StreamKind) (s : List ℕ) (v : Near) : Type 0 where
   pub check : checkIn (v .bounds) which ≡ checked which s
   pub stream : (t : Stream) → checked which s ≡ Good t → streamIn (v .bounds) which ≡ t
-  pub right : (t : Stream) → checked which s ≡ Good t → RightFor (layoutIn (v .bounds) which) (placesIn (v .bounds) (v .places) which) s t
+  pub right : (t : Stream) → checked which s ≡ Good t → RightFor (spacingIn (v .bounds) which) (placesIn (v .bounds) (v .places) which) s t
 
 -- Of both streams.
 pub record Kept (types ids : List ℕ) (v : Near) : Type 0 where

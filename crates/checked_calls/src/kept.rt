@@ -18,7 +18,7 @@ use streams::stream::StreamCheck;
 fn no_ids() -> NotedCheck {
     NotedCheck {
         check: StreamCheck::Refused(Refusal::Header(StreamKind::Ids)),
-        layout: strided_by(1, 0),
+        spacing: strided_by(1, 0),
     }
 }
 

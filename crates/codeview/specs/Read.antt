@@ -7,14 +7,14 @@ use Rattle.wire.specs.Field.{pick}
 use Rattle.primitives.specs.Primitive.{primitives, firstOf}
 use Rattle.streams.specs.Stream.{recordAt, firstRecord, lookFrom, part}
 use Rattle.streams.specs.Places.{nearest}
-use Rattle.streams.specs.Bounds.{streamIn, layoutIn, placesIn}
+use Rattle.streams.specs.Bounds.{streamIn, spacingIn, placesIn}
 use Rattle.streams.specs.declared.refusal.StreamKind.the-variants.{Types, Ids}
 use Rattle.codeview.specs.Record.{typeOf}
 use Rattle.codeview.specs.IdRecord.{idDataOf}
 use Rattle.streams.specs.declared.refusal.Refusal.the-variants.{Malformed, Missing, CrossModule}
 use Rattle.streams.specs.declared.stream.Stream.{Stream}
 use Rattle.streams.specs.declared.stream.Cursor.{Cursor}
-use Rattle.streams.specs.declared.places.Layout.{Layout}
+use Rattle.streams.specs.declared.places.Spacing.{Spacing}
 use Rattle.codeview.specs.declared.record.TypeData.the-variants as type
 use Rattle.codeview.specs.declared.record.TypeRead.{TypeRead}
 use Rattle.codeview.specs.declared.record.TypeRead.the-variants.{Good, Refused}
@@ -45,12 +45,12 @@ abbrev pub readType : List ℕ → Stream → ℕ → TypeRead
 readType s t index = typeFrom s t (firstRecord t) index
 
 -- The same by places, whatever they are: the walk starts at the nearest.
-abbrev pub readTypeBy : Layout → List ℕ → List ℕ → Stream → ℕ → TypeRead
+abbrev pub readTypeBy : Spacing → List ℕ → List ℕ → Stream → ℕ → TypeRead
 readTypeBy l ps s t index = typeFrom s t (nearest l ps t index) index
 
 -- The same, where the bounds of both streams, and how their places are laid out, are lent as numbers.
 abbrev pub readTypeIn : List ℕ → List ℕ → List ℕ → ℕ → TypeRead
-readTypeIn s bounds places index = readTypeBy (layoutIn bounds Types) (placesIn bounds places Types) s (streamIn bounds Types) index
+readTypeIn s bounds places index = readTypeBy (spacingIn bounds Types) (placesIn bounds places Types) s (streamIn bounds Types) index
 
 -- The same where the place of the index's record is known.
 unfoldable pub typeIn : List ℕ → Stream → ℕ → ℕ → TypeRead
@@ -70,8 +70,8 @@ idFrom s t from index =
 abbrev pub readId : List ℕ → Stream → ℕ → IdRead
 readId s t index = idFrom s t (firstRecord t) index
 
-abbrev pub readIdBy : Layout → List ℕ → List ℕ → Stream → ℕ → IdRead
+abbrev pub readIdBy : Spacing → List ℕ → List ℕ → Stream → ℕ → IdRead
 readIdBy l ps s t index = idFrom s t (nearest l ps t index) index
 
 abbrev pub readIdIn : List ℕ → List ℕ → List ℕ → ℕ → IdRead
-readIdIn s bounds places index = readIdBy (layoutIn bounds Ids) (placesIn bounds places Ids) s (streamIn bounds Ids) index
+readIdIn s bounds places index = readIdBy (spacingIn bounds Ids) (placesIn bounds places Ids) s (streamIn bounds Ids) index

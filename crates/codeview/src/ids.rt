@@ -17,8 +17,8 @@ use crate::record::IdData;
 use crate::record::IdRead;
 use crate::record::MemberFunctionId;
 use crate::record::StringId;
-use streams::bounds::layout_in;
 use streams::bounds::places_in;
+use streams::bounds::spacing_in;
 use streams::bounds::stream_in;
 use streams::refusal::Refusal;
 use streams::refusal::StreamKind;
@@ -129,7 +129,7 @@ pub fn id_at(s: &[u8], bounds: &[u32], places: &[u32], index: IdIndex) -> IdRead
 {
     let i = index.0;
     let near = places_in(bounds, places, StreamKind::Ids);
-    let l = layout_in(bounds, StreamKind::Ids);
+    let l = spacing_in(bounds, StreamKind::Ids);
     let stream = stream_in(bounds, StreamKind::Ids);
     match streams::places::look_up(s, near, l, stream, i) {
         Found::Record { kind, start, end } => decode_id(&s[start..end], start, kind, i),

@@ -29,8 +29,8 @@ use crate::record::ProcedureType;
 use crate::record::TypeData;
 use crate::record::TypeRead;
 use crate::record::UnionType;
-use streams::bounds::layout_in;
 use streams::bounds::places_in;
+use streams::bounds::spacing_in;
 use streams::bounds::stream_in;
 use streams::refusal::Refusal;
 use streams::refusal::StreamKind;
@@ -346,7 +346,7 @@ pub fn type_at(s: &[u8], bounds: &[u32], places: &[u32], index: TypeIndex) -> Ty
         return primitive_type(i);
     }
     let near = places_in(bounds, places, StreamKind::Types);
-    let l = layout_in(bounds, StreamKind::Types);
+    let l = spacing_in(bounds, StreamKind::Types);
     let stream = stream_in(bounds, StreamKind::Types);
     match streams::places::look_up(s, near, l, stream, i) {
         Found::Record { kind, start, end } => decode_type(&s[start..end], start, kind, i),

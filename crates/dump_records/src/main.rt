@@ -27,8 +27,8 @@ use files::say;
 use libc::STDERR_FILENO;
 use libc::STDOUT_FILENO;
 use streams::bounds::bounds_of;
-use streams::bounds::layout_in;
 use streams::bounds::places_in;
+use streams::bounds::spacing_in;
 use streams::bounds::stream_in;
 use streams::chains::check_stream;
 use streams::places::look_up;
@@ -281,7 +281,7 @@ fn id_line(s: &[u8], bounds: &[u32], places: &[u32], index: u32) {
 fn line(s: &[u8], bounds: &[u32], places: &[u32], which: StreamKind, index: u32) {
     hex(b"", index);
     let near = places_in(bounds, places, which);
-    let l = layout_in(bounds, which);
+    let l = spacing_in(bounds, which);
     let stream = stream_in(bounds, which);
     if let Found::Record {
         kind,

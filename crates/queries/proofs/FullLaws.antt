@@ -17,7 +17,7 @@ use Rattle.primitives.specs.Primitive.{primitives, firstOf}
 use Rattle.primitives.specs.declared.PrimitiveKind.{PrimitiveKind}
 use Rattle.streams.specs.Stream.{walkFrom, lookFrom}
 use Rattle.streams.specs.Places.{nearest, servesUntil}
-use Rattle.streams.specs.Bounds.{streamIn, layoutIn, placesIn}
+use Rattle.streams.specs.Bounds.{streamIn, spacingIn, placesIn}
 use Rattle.streams.specs.declared.refusal.StreamKind.the-variants.{Types}
 use Rattle.streams.specs.declared.refusal.Refusal.{Refusal}
 use Rattle.streams.specs.declared.refusal.Refusal.the-variants.{Missing, CrossModule}
@@ -25,7 +25,7 @@ use Rattle.streams.specs.declared.stream.Stream.{Stream}
 use Rattle.streams.specs.declared.stream.Cursor.{Cursor}
 use Rattle.streams.specs.declared.stream.CursorRead.{CursorRead}
 use Rattle.streams.specs.declared.stream.CursorRead.the-variants as cursor
-use Rattle.streams.specs.declared.places.Layout.{Layout}
+use Rattle.streams.specs.declared.places.Spacing.{Spacing}
 use Rattle.streams.proofs.stream.CursorRead.{the-type as the-cursor}
 use Rattle.streams.proofs.Cursors.{cursorFrom, Gone, Standing, stands, walk-on, gone-on, look-cursor}
 use Rattle.streams.proofs.Marks.{nearest-same}
@@ -274,7 +274,7 @@ module _ (types : List ℕ) (t : Stream) (from : Cursor) (stop : ℕ) (name : Li
             }
 
 -- No start is before the first record.
-before-first : (l : Layout) (ps : List ℕ) (t : Stream) (i : ℕ) → i < t .first → i < nearest l ps t i .index
+before-first : (l : Spacing) (ps : List ℕ) (t : Stream) (i : ℕ) → i < t .first → i < nearest l ps t i .index
 unfolding nearest
 before-first l ps t i h = omega arith
 
@@ -284,7 +284,7 @@ module _ (types : List ℕ) (v : Near) (name : List ℕ) (own : ℕ) (c : Settin
   t = streamIn (v .bounds) Types
 
   abbrev from : ℕ → Cursor
-  from i = nearest (layoutIn (v .bounds) Types) (placesIn (v .bounds) (v .places) Types) t i
+  from i = nearest (spacingIn (v .bounds) Types) (placesIn (v .bounds) (v .places) Types) t i
 
   abbrev size : ℕ → ℕ → ℕ
   size n i = fullSize c (tableIn types (beside ids v)) n i name own
@@ -303,7 +303,7 @@ module _ (types : List ℕ) (v : Near) (name : List ℕ) (own : ℕ) (c : Settin
   skip (suc n) i start e h p = by (decLt i start) (λ l. skip n (i + 1) start (omega arith) (omega arith) (λ k a b. p k (omega arith) b))
     where
       by : Dec (i < start) → (i < start → size (t .end - start) start ≡ size n (i + 1)) → size (t .end - start) start ≡ size (suc n) i
-      by (yes l) g = g l ∙ sym (one-more n i ∙ below-passes types t (from i) name i (λ a. before-first (layoutIn (v .bounds) Types) (placesIn (v .bounds) (v .places) Types) t i (p i (omega arith) l a)) (size n (i + 1)))
+      by (yes l) g = g l ∙ sym (one-more n i ∙ below-passes types t (from i) name i (λ a. before-first (spacingIn (v .bounds) Types) (placesIn (v .bounds) (v .places) Types) t i (p i (omega arith) l a)) (size n (i + 1)))
       by (no l) g = let z : start ≡ i = omega arith in let y : t .end - i ≡ suc n = omega arith in rw (z, y)
 
   from-first : (i m start : ℕ) → i < t .end → m ≡ max (i + 1) 0x1000 → start ≡ max m (t .first) → size (t .end - start) start ≡ size (t .end - (i + 1)) (i + 1)
@@ -330,8 +330,8 @@ module _ (types : List ℕ) (v : Near) (name : List ℕ) (own index : ℕ) where
   abbrev stream : Stream
   stream = streamIn (v .bounds) Types
 
-  abbrev layout : Layout
-  layout = layoutIn (v .bounds) Types
+  abbrev spacing : Spacing
+  spacing = spacingIn (v .bounds) Types
 
   abbrev by : List ℕ
   by = placesIn (v .bounds) (v .places) Types
@@ -352,13 +352,13 @@ module _ (types : List ℕ) (v : Near) (name : List ℕ) (own index : ℕ) where
     pub range-over : stream .end ≤ at → FullSize types v index name own own
     range-over h = w .holds own (record { is = λ c ids. none-left types v name own c ids (stream .end - at) at (omega arith) })
 
-    module _ (h : at < stream .end) {stop : ℕ} (e : stop ≡ min (max (servesUntil layout stream at) (at + 1)) (stream .end)) {start : Cursor} (s : start ≡ nearest layout by stream at) {q : FullRead} (f : FullBetween types stream start at stop name q) where
-      same : (j : ℕ) → at ≤ j → j < stop → nearest layout by stream j ≡ nearest layout by stream at
-      same j a b = go (decLt j (servesUntil layout stream at))
+    module _ (h : at < stream .end) {stop : ℕ} (e : stop ≡ min (max (servesUntil spacing stream at) (at + 1)) (stream .end)) {start : Cursor} (s : start ≡ nearest spacing by stream at) {q : FullRead} (f : FullBetween types stream start at stop name q) where
+      same : (j : ℕ) → at ≤ j → j < stop → nearest spacing by stream j ≡ nearest spacing by stream at
+      same j a b = go (decLt j (servesUntil spacing stream at))
         where
-          go : Dec (j < servesUntil layout stream at) → nearest layout by stream j ≡ nearest layout by stream at
-          go (yes d) = nearest-same layout by stream at j (w .inside) a d
-          go (no d) = let z : j ≡ at = omega arith in ap (λ (i : ℕ). nearest layout by stream i) z
+          go : Dec (j < servesUntil spacing stream at) → nearest spacing by stream j ≡ nearest spacing by stream at
+          go (yes d) = nearest-same spacing by stream at j (w .inside) a d
+          go (no d) = let z : j ≡ at = omega arith in ap (λ (i : ℕ). nearest spacing by stream i) z
 
       on : (c : Settings) (ids : List ℕ) → orElse q (fullSize c (tableIn types (beside ids v)) (stream .end - stop) stop name own) ≡ fullSize c (tableIn types (beside ids v)) (stream .end - at) at name own
       on c ids =

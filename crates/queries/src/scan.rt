@@ -13,10 +13,10 @@ use codeview::record::TypeRead;
 use codeview::record::UniqueName;
 use codeview::types::type_in;
 use leaf_writers::names::name_of;
-use streams::bounds::layout_in;
 use streams::bounds::places_in;
+use streams::bounds::spacing_in;
 use streams::bounds::stream_in;
-use streams::places::Layout;
+use streams::places::Spacing;
 use streams::places::serves_until;
 use streams::places::start_of;
 use streams::places::wide;
@@ -160,7 +160,7 @@ fn sooner(a: usize, b: usize) -> usize
 }
 
 // Up to which index the scan goes on from the start of one, which is the next at least.
-fn stretch_end(l: Layout, stream: Stream, at: u32) -> u32
+fn stretch_end(l: Spacing, stream: Stream, at: u32) -> u32
     requires { ⌜ at < stream .end ⌝ }
     ensures { λ r. ⌜ r ≡ min (max (servesUntil l stream at) (at + 1)) (stream .end) ⌝ }
 {
@@ -208,7 +208,7 @@ pub fn get_size_for_forward_reference(
     ensures { λ r. ⌜ FullSize (now (types .entry)) (near (now (bounds .entry)) (now (places .entry))) (index .0) (now (name .entry)) own r ⌝ }
 {
     let stream = stream_in(bounds, StreamKind::Types);
-    let l = layout_in(bounds, StreamKind::Types);
+    let l = spacing_in(bounds, StreamKind::Types);
     let by = places_in(bounds, places, StreamKind::Types);
     let i = index.0;
     let end = stream.end;

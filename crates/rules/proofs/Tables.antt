@@ -6,7 +6,7 @@ use Rattle.streams.specs.Stream.{firstRecord}
 use Rattle.streams.specs.Places.{RightFor, nearest}
 use Rattle.streams.specs.Bounds.{none}
 use Rattle.streams.specs.declared.stream.Stream.{Stream}
-use Rattle.streams.specs.declared.places.Layout.{Layout}
+use Rattle.streams.specs.declared.places.Spacing.{Spacing}
 use Rattle.streams.proofs.Marks.{look-nothing}
 use Rattle.codeview.specs.Read.{readType, readTypeBy, idFrom, readId, readIdBy}
 use Rattle.codeview.specs.declared.record.TypeRead.{TypeRead}
@@ -15,7 +15,7 @@ use Rattle.codeview.proofs.Right.{type-right, id-right}
 use Rattle.rules.specs.Record.{Read, Record, IdRecord, typeAsRead, idAsRead, tableOf}
 use Rattle.rules.specs.Places.{tableBy}
 
-module _ (l : Layout) (ps s : List ℕ) (t : Stream) (r : RightFor l ps s t) (m : Layout) (qs d : List ℕ) (u : Stream) where
+module _ (l : Spacing) (ps s : List ℕ) (t : Stream) (r : RightFor l ps s t) (m : Spacing) (qs d : List ℕ) (u : Stream) where
   types-alike : _≡_ {A = ℕ → Read Record} (λ i. typeAsRead s (readTypeBy l ps s t i)) (λ i. typeAsRead s (readType s t i))
   types-alike = fun-ext (λ i. ap (λ (x : TypeRead). typeAsRead s x) (type-right l ps s t r i))
 
@@ -29,9 +29,9 @@ module _ (l : Layout) (ps s : List ℕ) (t : Stream) (r : RightFor l ps s t) (m 
   table-right q = alike u (id-right m qs d u q)
 
 -- Where there are no ids, whatever is said of their stream.
-nothing : (m : Layout) (qs : List ℕ) (u : Stream) (i : ℕ) → readIdBy m qs [] u i ≡ readId [] none i
+nothing : (m : Spacing) (qs : List ℕ) (u : Stream) (i : ℕ) → readIdBy m qs [] u i ≡ readId [] none i
 unfolding idFrom
 nothing m qs u i = look-nothing u (nearest m qs u i) i _ _ _ ∙ sym (look-nothing none (firstRecord none) i _ _ _)
 
-pub table-types : (l : Layout) (ps s : List ℕ) (t : Stream) → RightFor l ps s t → (m : Layout) (qs : List ℕ) (u : Stream) → tableBy l ps s t m qs [] u ≡ tableOf s t [] none
+pub table-types : (l : Spacing) (ps s : List ℕ) (t : Stream) → RightFor l ps s t → (m : Spacing) (qs : List ℕ) (u : Stream) → tableBy l ps s t m qs [] u ≡ tableOf s t [] none
 table-types l ps s t r m qs u = alike l ps s t r m qs [] u none (nothing m qs u)

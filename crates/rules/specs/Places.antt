@@ -1,15 +1,15 @@
 -- The table of two streams by their places, whatever these are: each look-up starts at the nearest one.
 use Prim.Native.Nat.{ℕ}
 use mathlib.Core.List.{List}
-use Rattle.streams.specs.Bounds.{streamIn, layoutIn, placesIn}
+use Rattle.streams.specs.Bounds.{streamIn, spacingIn, placesIn}
 use Rattle.streams.specs.declared.refusal.StreamKind.the-variants.{Types, Ids}
 use Rattle.streams.specs.declared.stream.Stream.{Stream}
-use Rattle.streams.specs.declared.places.Layout.{Layout}
+use Rattle.streams.specs.declared.places.Spacing.{Spacing}
 use Rattle.codeview.specs.Read.{readTypeBy, readTypeIn, readIdBy}
 use Rattle.codeview.specs.declared.record.TypeRead.{TypeRead}
 use Rattle.rules.specs.Record.{Table, typeAsRead, idAsRead}
 
-unfoldable pub tableBy : Layout → List ℕ → List ℕ → Stream → Layout → List ℕ → List ℕ → Stream → Table
+unfoldable pub tableBy : Spacing → List ℕ → List ℕ → Stream → Spacing → List ℕ → List ℕ → Stream → Table
 tableBy l ps s t m qs d u =
     record {
       types = λ i. typeAsRead s (readTypeBy l ps s t i);
@@ -43,5 +43,5 @@ lent ids bounds places = beside ids (near bounds places)
 -- The table that the writers go by.
 unfoldable pub tableIn : List ℕ → Lent → Table
 tableIn types d =
-    tableBy (layoutIn (d .near .bounds) Types) (placesIn (d .near .bounds) (d .near .places) Types) types (streamIn (d .near .bounds) Types)
-    (layoutIn (d .near .bounds) Ids) (placesIn (d .near .bounds) (d .near .places) Ids) (d .ids) (streamIn (d .near .bounds) Ids)
+    tableBy (spacingIn (d .near .bounds) Types) (placesIn (d .near .bounds) (d .near .places) Types) types (streamIn (d .near .bounds) Types)
+    (spacingIn (d .near .bounds) Ids) (placesIn (d .near .bounds) (d .near .places) Ids) (d .ids) (streamIn (d .near .bounds) Ids)

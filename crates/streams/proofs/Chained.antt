@@ -16,7 +16,7 @@ use Rattle.streams.specs.Places.{entryIn, markIn, markBy, firstMark, Rig
 use Rattle.streams.specs.Chains.{Linked, Within, Finished, dueNext, Dued, FourBehind, Stretched, Together, ChainedFor}
 use Rattle.streams.specs.declared.stream.Place.{Place}
 use Rattle.streams.specs.declared.stream.Place.the-variants.{At, Beyond}
-use Rattle.streams.specs.declared.places.Layout.{Layout}
+use Rattle.streams.specs.declared.places.Spacing.{Spacing}
 use Rattle.streams.specs.declared.chains.Due.{Due}
 use Rattle.streams.specs.declared.chains.Four.{Four}
 use Rattle.streams.specs.declared.chains.FourPlaces.{FourPlaces}
@@ -126,7 +126,7 @@ module _ (s : List ℕ) (from stride room base : ℕ) where
   run-frame c ps qs f r i h m = rw (f i h) (r i h m)
 
 -- A chain's marks are right in the whole.
-pub chain-right : (l : Layout) (ps s : List ℕ) (off first from c n : ℕ) → passed first s 56 At Beyond ≡ At from → RightRun s from c (l .stride) (l .room) off ps → 0 < l .room → first ≤ n → n < first + c → passed (markIn l ps off first n .number) s 56 At Beyond ≡ At (markIn l ps off first n .place)
+pub chain-right : (l : Spacing) (ps s : List ℕ) (off first from c n : ℕ) → passed first s 56 At Beyond ≡ At from → RightRun s from c (l .stride) (l .room) off ps → 0 < l .room → first ≤ n → n < first + c → passed (markIn l ps off first n .number) s 56 At Beyond ≡ At (markIn l ps off first n .place)
 unfolding markIn passed
 chain-right l ps s off first from c n e r h i j = go (ltb (off + k) (length ps))
   where
@@ -158,7 +158,7 @@ module _ (s : List ℕ) (x y z n₀ n₁ n₂ n₃ : ℕ)
   unfolding markBy passed
   chains-right stride room ps h r₀ r₁ r₂ r₃ n i = go (ltb n n₀) (ltb n (n₀ + n₁)) (ltb n (n₀ + n₁ + n₂)) refl refl refl
     where
-      l : Layout
+      l : Spacing
       l = quartered stride room n₀ n₁ n₂
 
       go : (p q r : Bool) → ltb n n₀ ≡ p → ltb n (n₀ + n₁) ≡ q → ltb n (n₀ + n₁ + n₂) ≡ r → passed (pick p (markIn l ps 0 0 n) (pick q (markIn l ps room n₀ n) (pick r (markIn l ps (2 * room) (n₀ + n₁) n) (markIn l ps (3 * room) (n₀ + n₁ + n₂) n))) .number) s 56 At Beyond ≡ At (pick p (markIn l ps 0 0 n) (pick q (markIn l ps room n₀ n) (pick r (markIn l ps (2 * room) (n₀ + n₁) n) (markIn l ps (3 * room) (n₀ + n₁ + n₂) n))) .place)
@@ -320,6 +320,6 @@ module _ (s : List ℕ) (count : ℕ) (old new : List ℕ) (z : length new ≡ l
         right = λ l e. let z : _≡_ {A = ℕ} 0 1 = cc in absurd (omega arith);
       }
 
-  pub chained-met : (l : Layout) → tiled count s ≡ true → RightMarks l new count s → ChainedFor s count old new (chains.Met l)
+  pub chained-met : (l : Spacing) → tiled count s ≡ true → RightMarks l new count s → ChainedFor s count old new (chains.Met l)
   chained-met l t r =
       record { sized = z; tiles = λ m e. t; right = λ m e. let f : l ≡ m = cc in rw (sym f) r }

@@ -16,7 +16,7 @@ use Rattle.streams.specs.Places.{firstMark, entryIn, markIn, markBy, nea
 use Rattle.streams.specs.declared.stream.Stream.{Stream}
 use Rattle.streams.specs.declared.stream.Cursor.{Cursor}
 use Rattle.streams.specs.declared.stream.Place.the-variants.{At, Beyond}
-use Rattle.streams.specs.declared.places.Layout.{Layout}
+use Rattle.streams.specs.declared.places.Spacing.{Spacing}
 use Rattle.streams.specs.declared.places.Mark.{Mark}
 use Rattle.streams.proofs.Walk.{passed-from}
 
@@ -32,7 +32,7 @@ pub step-next : (k d stride a m : ℕ) → a ≡ d / stride → k ≡ min a m �
 step-next k d stride a m e f = rw (add-one k, suc-mul k stride) (omega (arith, step-before k d stride a m e f))
 
 -- What `mark_in` answers: the entry where there is one, and else the first record.
-module _ (l : Layout) (ps : List ℕ) (from base n k a b : ℕ) (e : a ≡ (n - base) / l .stride) (f : b ≡ l .room - 1) (g : k ≡ min a b) where
+module _ (l : Spacing) (ps : List ℕ) (from base n k a b : ℕ) (e : a ≡ (n - base) / l .stride) (f : b ≡ l .room - 1) (g : k ≡ min a b) where
   pub mark-at : from + k < length ps → (x : ℕ) → x ≡ getD ps (from + k) 0 → _≡_ {A = Mark} (record { number = base + k * l .stride; place = x }) (markIn l ps from base n)
   unfolding markIn
   mark-at h x i =
@@ -46,7 +46,7 @@ module _ (l : Layout) (ps : List ℕ) (from base n k a b : ℕ) (e : a ≡ (n - 
       rw (le-ltb (from + entryIn l base n) (length ps) (rw j at h))
 
 -- What `serves_in` answers: up to the next entry's record or the next part, or up to that alone where there is no next entry.
-module _ (l : Layout) (base n k a b : ℕ) (e : a ≡ (n - base) / l .stride) (f : b ≡ l .room - 1) (g : k ≡ min a b) where
+module _ (l : Spacing) (base n k a b : ℕ) (e : a ≡ (n - base) / l .stride) (f : b ≡ l .room - 1) (g : k ≡ min a b) where
   pub serves-at : (next : ℕ) → k + 1 < l .room → min (base + (k + 1) * l .stride) next ≡ servesIn l base next n
   unfolding servesIn
   serves-at next h =
@@ -59,7 +59,7 @@ module _ (l : Layout) (base n k a b : ℕ) (e : a ≡ (n - base) / l .stride) (f
       let j : k ≡ entryIn l base n = cc in
       rw (le-ltb (entryIn l base n + 1) (l .room) (rw j at h))
 
-pub mark-in-before : (l : Layout) (ps : List ℕ) (from base n : ℕ) → base ≤ n → markIn l ps from base n .number ≤ n
+pub mark-in-before : (l : Spacing) (ps : List ℕ) (from base n : ℕ) → base ≤ n → markIn l ps from base n .number ≤ n
 unfolding markIn
 mark-in-before l ps from base n h = go (ltb (from + entryIn l base n) (length ps))
   where
@@ -67,7 +67,7 @@ mark-in-before l ps from base n h = go (ltb (from + entryIn l base n) (length ps
     go true = omega (arith, entry-before (n - base) (l .stride) (l .room - 1))
     go false = omega arith
 
-pub mark-before : (l : Layout) (ps : List ℕ) (n : ℕ) → markBy l ps n .number ≤ n
+pub mark-before : (l : Spacing) (ps : List ℕ) (n : ℕ) → markBy l ps n .number ≤ n
 unfolding markBy
 mark-before l ps n = go (ltb n (l .second)) (ltb n (l .third)) (ltb n (l .fourth)) refl refl refl
   where
@@ -77,16 +77,16 @@ mark-before l ps n = go (ltb n (l .second)) (ltb n (l .third)) (ltb n (l .fourth
     go false false true e f g = mark-in-before l ps (2 * l .room) (l .third) n (ltb-false _ _ f)
     go false false false e f g = mark-in-before l ps (3 * l .room) (l .fourth) n (ltb-false _ _ g)
 
-pub mark-low : (l : Layout) (ps : List ℕ) (n : ℕ) {m : Mark} → m ≡ markBy l ps n → m .number ≤ n
+pub mark-low : (l : Spacing) (ps : List ℕ) (n : ℕ) {m : Mark} → m ≡ markBy l ps n → m .number ≤ n
 mark-low l ps n e = rw e (mark-before l ps n)
 
 -- A start is never behind its index, and is never before the first record.
-pub nearest-onward : (l : Layout) (ps : List ℕ) (t : Stream) (i : ℕ) → t .first ≤ i → nearest l ps t i .index ≤ i
+pub nearest-onward : (l : Spacing) (ps : List ℕ) (t : Stream) (i : ℕ) → t .first ≤ i → nearest l ps t i .index ≤ i
 unfolding nearest
 nearest-onward l ps t i h = omega (arith, mark-before l ps (i - t .first))
 
 -- The law: from right marks the walk to an index is the plain one, for every index.
-pub walk-right : {A : Type 0} (l : Layout) (ps s : List ℕ) (t : Stream) → RightFor l ps s t → (i : ℕ) (k : Cursor → A) (m x : A) → walkFrom s t (nearest l ps t i) i k m x ≡ walkFrom s t (firstRecord t) i k m x
+pub walk-right : {A : Type 0} (l : Spacing) (ps s : List ℕ) (t : Stream) → RightFor l ps s t → (i : ℕ) (k : Cursor → A) (m x : A) → walkFrom s t (nearest l ps t i) i k m x ≡ walkFrom s t (firstRecord t) i k m x
 unfolding walkFrom nearest
 walk-right {A} l ps s t r i k m x = go (leb 0x8000_0000 i) (ltb i (t .first)) (leb (t .end) i) refl refl
   where
@@ -122,7 +122,7 @@ walk-right {A} l ps s t r i k m x = go (leb 0x8000_0000 i) (ltb i (t .first)) (l
         rw (le-ltb i (t .first + number) (omega (arith, mark-before l ps n))) (walked h (leb-false (t .end) i f))
 
 -- And so is what is looked up.
-pub look-right : {A : Type 0} (l : Layout) (ps s : List ℕ) (t : Stream) → RightFor l ps s t → (i : ℕ) (k : ℕ → ℕ → ℕ → A) (m x : A) → lookFrom s t (nearest l ps t i) i k m x ≡ lookFrom s t (firstRecord t) i k m x
+pub look-right : {A : Type 0} (l : Spacing) (ps s : List ℕ) (t : Stream) → RightFor l ps s t → (i : ℕ) (k : ℕ → ℕ → ℕ → A) (m x : A) → lookFrom s t (nearest l ps t i) i k m x ≡ lookFrom s t (firstRecord t) i k m x
 unfolding lookFrom
 look-right l ps s t r i k m x = walk-right l ps s t r i (λ c. recordAt (take (t .stop) s) (c .at) k m) m x
 
@@ -166,7 +166,7 @@ div-steady : (a b d : ℕ) → a ≤ b → a / d ≤ b / d
 div-steady a b zero h = rw (div-zero a, div-zero b) (omega arith)
 div-steady a b (suc d) h = le-div-iff-mul-le {k = suc d} {x = a / suc d} {y = b} (omega arith) .1 (omega (arith, div-mul-le-self a (suc d)))
 
-pub entry-same : (l : Layout) (base next n m : ℕ) → base ≤ n → n ≤ m → m < servesIn l base next n → entryIn l base m ≡ entryIn l base n
+pub entry-same : (l : Spacing) (base next n m : ℕ) → base ≤ n → n ≤ m → m < servesIn l base next n → entryIn l base m ≡ entryIn l base n
 unfolding servesIn
 entry-same l base next n m h i j = go (ltb (entryIn l base n + 1) (l .room)) refl j
   where
@@ -186,11 +186,11 @@ entry-same l base next n m h i j = go (ltb (entryIn l base n + 1) (l .room)) ref
             absurd (omega arith)
     go false e k = omega (arith, steady, ltb-false (entryIn l base n + 1) (l .room) e)
 
-mark-in-same : (l : Layout) (ps : List ℕ) (from base next n m : ℕ) → base ≤ n → n ≤ m → m < servesIn l base next n → markIn l ps from base m ≡ markIn l ps from base n
+mark-in-same : (l : Spacing) (ps : List ℕ) (from base next n m : ℕ) → base ≤ n → n ≤ m → m < servesIn l base next n → markIn l ps from base m ≡ markIn l ps from base n
 unfolding markIn
 mark-in-same l ps from base next n m h i j = rw (entry-same l base next n m h i j)
 
-pub serves-within : (l : Layout) (base next n : ℕ) → servesIn l base next n ≤ next
+pub serves-within : (l : Spacing) (base next n : ℕ) → servesIn l base next n ≤ next
 unfolding servesIn
 serves-within l base next n = go (ltb (entryIn l base n + 1) (l .room))
   where
@@ -198,7 +198,7 @@ serves-within l base next n = go (ltb (entryIn l base n + 1) (l .room))
     go true = omega arith
     go false = omega arith
 
-pub mark-same : (l : Layout) (ps : List ℕ) (n m : ℕ) → n ≤ m → m < serves l n → markBy l ps m ≡ markBy l ps n
+pub mark-same : (l : Spacing) (ps : List ℕ) (n m : ℕ) → n ≤ m → m < serves l n → markBy l ps m ≡ markBy l ps n
 unfolding markBy serves
 mark-same l ps n m h j = go (ltb n (l .second)) (ltb n (l .third)) (ltb n (l .fourth)) refl refl refl j
   where
@@ -225,6 +225,6 @@ mark-same l ps n m h j = go (ltb n (l .second)) (ltb n (l .third)) (ltb n (l .fo
         (mark-in-same l ps (3 * l .room) (l .fourth) 0x1_0000_0000 n m z h k)
 
 -- So the walks to indexes up to where a start serves have the same start.
-pub nearest-same : (l : Layout) (ps : List ℕ) (t : Stream) (i j : ℕ) → t .first ≤ i → i ≤ j → j < servesUntil l t i → nearest l ps t j ≡ nearest l ps t i
+pub nearest-same : (l : Spacing) (ps : List ℕ) (t : Stream) (i j : ℕ) → t .first ≤ i → i ≤ j → j < servesUntil l t i → nearest l ps t j ≡ nearest l ps t i
 unfolding nearest servesUntil
 nearest-same l ps t i j f h k = rw (mark-same l ps (i - t .first) (j - t .first) (omega arith) (omega arith))

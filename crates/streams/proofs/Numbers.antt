@@ -11,7 +11,7 @@ use lib.Dec.{leb, eqb}
 use Rattle.wire.specs.Field.{pick}
 use Rattle.streams.specs.Stream.{header, tiled, checked}
 use Rattle.streams.specs.Places.{RightFor, NotedFor}
-use Rattle.streams.specs.Bounds.{startOf, streamIn, layoutIn, checkIn, placesIn, stateOf, none, streamOf, boundsOf}
+use Rattle.streams.specs.Bounds.{startOf, streamIn, spacingIn, checkIn, placesIn, stateOf, none, streamOf, boundsOf}
 use Rattle.streams.specs.declared.refusal.StreamKind.{StreamKind}
 use Rattle.streams.specs.declared.refusal.StreamKind.the-variants.{Types, Ids}
 use Rattle.streams.specs.declared.refusal.Refusal.the-variants.{Header, Tiling}
@@ -20,7 +20,7 @@ use Rattle.streams.specs.declared.stream.Head.the-variants as head
 use Rattle.streams.specs.declared.stream.Stream.{Stream}
 use Rattle.streams.specs.declared.stream.StreamCheck.{StreamCheck}
 use Rattle.streams.specs.declared.stream.StreamCheck.the-variants.{Good, Refused}
-use Rattle.streams.specs.declared.places.Layout.{Layout}
+use Rattle.streams.specs.declared.places.Spacing.{Spacing}
 use Rattle.streams.specs.declared.places.NotedCheck.{NotedCheck}
 use Rattle.streams.proofs.Walk.{header-good, header-broken, header-within, header-small}
 
@@ -72,7 +72,7 @@ module _ (ns : List ℕ) (which : StreamKind) where
   unfolding checkIn stateOf
   state-header e = rw e
 
--- What is read back of a good check is its stream and its layout; of any check its answer.
+-- What is read back of a good check is its stream and its spacing; of any check its answer.
 module _ (a b : NotedCheck) (split : ℕ) where
   pub types-back : (s : List ℕ) → a .check ≡ checked Types s → (t : Stream) → a .check ≡ Good t → streamIn (boundsOf a b split) Types ≡ t
   unfolding streamIn startOf boundsOf streamOf
@@ -82,13 +82,13 @@ module _ (a b : NotedCheck) (split : ℕ) where
   unfolding streamIn startOf boundsOf streamOf
   ids-back s e t h = rw h (ap (λ (n : ℕ). record { first = t .first; end = t .end; stop = n }) (by-check Ids s (λ c. c ≡ Good t → min (t .stop) 0xffff_ffff ≡ t .stop) (λ u f q. let w : u ≡ t = cc in rw (sym w) (f .fits)) (λ q. let w : _≡_ {A = ℕ} 0 1 = cc in absurd (omega arith)) (λ q. let w : _≡_ {A = ℕ} 0 1 = cc in absurd (omega arith)) (sym e ∙ h)))
 
-  pub types-layout : layoutIn (boundsOf a b split) Types ≡ a .layout
-  unfolding layoutIn startOf boundsOf
-  types-layout = refl
+  pub types-spacing : spacingIn (boundsOf a b split) Types ≡ a .spacing
+  unfolding spacingIn startOf boundsOf
+  types-spacing = refl
 
-  pub ids-layout : layoutIn (boundsOf a b split) Ids ≡ b .layout
-  unfolding layoutIn startOf boundsOf
-  ids-layout = refl
+  pub ids-spacing : spacingIn (boundsOf a b split) Ids ≡ b .spacing
+  unfolding spacingIn startOf boundsOf
+  ids-spacing = refl
 
   types-state : {c : StreamCheck} → a .check ≡ c → getD (boundsOf a b split) (startOf Types) 0 ≡ stateOf c
   unfolding startOf boundsOf

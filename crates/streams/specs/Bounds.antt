@@ -12,7 +12,7 @@ use Rattle.streams.specs.declared.refusal.Refusal.the-variants.{Header, 
 use Rattle.streams.specs.declared.stream.Stream.{Stream}
 use Rattle.streams.specs.declared.stream.StreamCheck.{StreamCheck}
 use Rattle.streams.specs.declared.stream.StreamCheck.the-variants.{Good, Refused}
-use Rattle.streams.specs.declared.places.Layout.{Layout}
+use Rattle.streams.specs.declared.places.Spacing.{Spacing}
 use Rattle.streams.specs.declared.places.NotedCheck.{NotedCheck}
 
 -- Where the numbers of a stream start.
@@ -29,8 +29,8 @@ streamIn ns which =
       stop = getD ns (startOf which + 3) 0;
     }
 
-unfoldable pub layoutIn : List ℕ → StreamKind → Layout
-layoutIn ns which =
+unfoldable pub spacingIn : List ℕ → StreamKind → Spacing
+spacingIn ns which =
     record {
       stride = getD ns (startOf which + 4) 0;
       room = getD ns (startOf which + 5) 0;
@@ -50,7 +50,7 @@ unfoldable pub placesIn : List ℕ → List ℕ → StreamKind → List ℕ
 placesIn ns ps stream.Types = take (getD ns 18 0) ps
 placesIn ns ps stream.Ids = drop (getD ns 18 0) ps
 
--- What is noted of a check: its answer, then the bounds and the layout.
+-- What is noted of a check: its answer, then the bounds and the spacing.
 unfoldable pub stateOf : StreamCheck → ℕ
 stateOf (Good t) = 1
 stateOf (Refused f) = numberOf f
@@ -63,11 +63,11 @@ unfoldable pub streamOf : StreamCheck → Stream
 streamOf (Good t) = t
 streamOf (Refused f) = none
 
-abbrev numbersBefore : ℕ → Stream → Layout → List ℕ → List ℕ
+abbrev numbersBefore : ℕ → Stream → Spacing → List ℕ → List ℕ
 numbersBefore state t l rest =
     state ∷ t .first ∷ t .end ∷ min (t .stop) 0xffff_ffff ∷ l .stride ∷ l .room ∷ l .second ∷ l .third ∷ l .fourth ∷ rest
 
 unfoldable pub boundsOf : NotedCheck → NotedCheck → ℕ → List ℕ
 boundsOf a b split =
-    numbersBefore (stateOf (a .check)) (streamOf (a .check)) (a .layout)
-    (numbersBefore (stateOf (b .check)) (streamOf (b .check)) (b .layout) (split ∷ []))
+    numbersBefore (stateOf (a .check)) (streamOf (a .check)) (a .spacing)
+    (numbersBefore (stateOf (b .check)) (streamOf (b .check)) (b .spacing) (split ∷ []))

@@ -2,9 +2,9 @@
 ghost use mathlib.Core.Path.{_≡_};
 ghost use Prim.Native.Nat.{_≤_, min};
 ghost use lib.ListN.{getD};
-ghost use Rattle.streams.specs.Bounds.{startOf, streamIn, layoutIn, checkIn, placesIn, stateOf, streamOf, boundsOf};
-use crate::places::Layout;
+ghost use Rattle.streams.specs.Bounds.{startOf, streamIn, spacingIn, checkIn, placesIn, stateOf, streamOf, boundsOf};
 use crate::places::NotedCheck;
+use crate::places::Spacing;
 use crate::places::wide;
 use crate::refusal::Refusal;
 use crate::refusal::StreamKind;
@@ -50,12 +50,12 @@ pub fn stream_in(bounds: &[u32], which: StreamKind) -> Stream
 }
 
 // How a stream's places are laid out.
-pub fn layout_in(bounds: &[u32], which: StreamKind) -> Layout
-    ensures { λ r. ⌜ r ≡ layoutIn (now (bounds .entry)) which ⌝ }
+pub fn spacing_in(bounds: &[u32], which: StreamKind) -> Spacing
+    ensures { λ r. ⌜ r ≡ spacingIn (now (bounds .entry)) which ⌝ }
 {
     let k = start_of(which);
     if k + 9 <= bounds.len() {
-        return Layout {
+        return Spacing {
             stride: bounds[k + 4],
             room: bounds[k + 5],
             second: bounds[k + 6],
@@ -68,7 +68,7 @@ pub fn layout_in(bounds: &[u32], which: StreamKind) -> Layout
     let second = number_at(bounds, k + 6);
     let third = number_at(bounds, k + 7);
     let fourth = number_at(bounds, k + 8);
-    Layout {
+    Spacing {
         stride,
         room,
         second,
@@ -139,10 +139,10 @@ pub fn bounds_of(a: NotedCheck, b: NotedCheck, split: u32) -> [u32; 19]
     ensures { λ r. ⌜ r ≡ boundsOf a b split ⌝ }
 {
     let c = a.check;
-    let l = a.layout;
+    let l = a.spacing;
     let t = stream_of(c);
     let d = b.check;
-    let m = b.layout;
+    let m = b.spacing;
     let u = stream_of(d);
     [
         state_of(c),

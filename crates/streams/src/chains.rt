@@ -5,8 +5,8 @@ ghost use lib.ListN.{length};
 ghost use Rattle.streams.specs.Chains.{Linked, Dued, FourBehind, Stretched, Stepped, Finished, ChainedFor};
 ghost use Rattle.streams.specs.Places.{NotedFor};
 ghost use Rattle.streams.specs.declared.stream.Place.the-variants.{At, Beyond};
-use crate::places::Layout;
 use crate::places::NotedCheck;
+use crate::places::Spacing;
 use crate::places::check_with_stride;
 use crate::places::entries;
 use crate::places::stride_for;
@@ -28,7 +28,7 @@ pub enum Chain {
 
 // How the places are laid out where the chains meet.
 pub enum Chains {
-    Met(Layout),
+    Met(Spacing),
     Apart,
 }
 
@@ -304,7 +304,7 @@ fn chained(
     let third = e + f;
     let fourth = third + g;
     if fourth + h == count {
-        return Chains::Met(Layout {
+        return Chains::Met(Spacing {
             stride,
             room,
             second: e,
@@ -397,9 +397,9 @@ pub fn check_stream(s: &[u8], which: StreamKind, places: &mut [u32]) -> NotedChe
         return check_with_stride(s, which, 0, places);
     }
     match four_chains(&s[..stop], count, places) {
-        Chains::Met(layout) => NotedCheck {
+        Chains::Met(spacing) => NotedCheck {
             check: StreamCheck::Good(Stream { first, end, stop }),
-            layout,
+            spacing,
         },
         Chains::Apart => check_with_stride(s, which, 0, places),
     }

@@ -23,7 +23,7 @@ use crate::stream::walk_from;
 
 // How places are laid out: in four parts of `room` entries, each with the place of every `stride`-th record of its own, and the numbers of the records
 // that the second, third and fourth part start with. One part alone has the others start at 0xffffffff.
-pub struct Layout {
+pub struct Spacing {
     pub stride: u32,
     pub room: u32,
     pub second: u32,
@@ -40,7 +40,7 @@ pub struct Mark {
 // The answer of a check, and how the places are laid out that it noted.
 pub struct NotedCheck {
     pub check: StreamCheck,
-    pub layout: Layout,
+    pub spacing: Spacing,
 }
 
 pub fn wide(x: u32) -> usize
@@ -77,7 +77,7 @@ fn one_less(n: u32) -> u32
     if n == 0 { 0 } else { n - 1 }
 }
 
-fn mark_in(places: &[u32], l: Layout, from: usize, base: u32, n: u32) -> Mark
+fn mark_in(places: &[u32], l: Spacing, from: usize, base: u32, n: u32) -> Mark
     requires { ⌜ (from ≤ 0x3_0000_0000) × (base ≤ n) ⌝ }
     ensures { λ r. ⌜ r ≡ markIn l (now (places .entry)) from base n ⌝ }
 {
@@ -98,7 +98,7 @@ fn mark_in(places: &[u32], l: Layout, from: usize, base: u32, n: u32) -> Mark
 }
 
 // The mark from which a record is sought.
-pub fn mark_by(places: &[u32], l: Layout, n: u32) -> Mark
+pub fn mark_by(places: &[u32], l: Spacing, n: u32) -> Mark
     ensures { λ r. ⌜ r ≡ markBy l (now (places .entry)) n ⌝ }
 {
     let second = l.second;
@@ -126,7 +126,7 @@ fn number_of(stream: Stream, index: u32) -> u32
 }
 
 // Where the walk to an index starts.
-pub fn start_of(places: &[u32], l: Layout, stream: Stream, index: u32) -> Cursor
+pub fn start_of(places: &[u32], l: Spacing, stream: Stream, index: u32) -> Cursor
     ensures { λ r. ⌜ r ≡ nearest l (now (places .entry)) stream index ⌝ }
 {
     let n = number_of(stream, index);
@@ -143,7 +143,7 @@ fn sooner(a: usize, b: usize) -> usize
     if a < b { a } else { b }
 }
 
-fn serves_in(l: Layout, base: u32, next: usize, n: u32) -> usize
+fn serves_in(l: Spacing, base: u32, next: usize, n: u32) -> usize
     requires { ⌜ base ≤ n ⌝ }
     ensures { λ r. ⌜ r ≡ servesIn l base next n ⌝ }
 {
@@ -158,7 +158,7 @@ fn serves_in(l: Layout, base: u32, next: usize, n: u32) -> usize
 }
 
 // Up to which number the mark of a record serves.
-fn serves(l: Layout, n: u32) -> usize
+fn serves(l: Spacing, n: u32) -> usize
     ensures { λ r. ⌜ (r ≡ Rattle.streams.specs.Places.serves l n) × (r ≤ 0x1_0000_0000) ⌝ }
 {
     let second = l.second;
@@ -177,7 +177,7 @@ fn serves(l: Layout, n: u32) -> usize
 }
 
 // Up to which index the walks start where the walk to an index does.
-pub fn serves_until(l: Layout, stream: Stream, index: u32) -> usize
+pub fn serves_until(l: Spacing, stream: Stream, index: u32) -> usize
     ensures { λ r. ⌜ r ≡ servesUntil l stream index ⌝ }
 {
     let n = number_of(stream, index);
@@ -185,7 +185,7 @@ pub fn serves_until(l: Layout, stream: Stream, index: u32) -> usize
 }
 
 // Where the record of an index stands.
-pub fn cursor_at(s: &[u8], places: &[u32], l: Layout, stream: Stream, index: u32) -> CursorRead
+pub fn cursor_at(s: &[u8], places: &[u32], l: Spacing, stream: Stream, index: u32) -> CursorRead
     ensures { λ r. ⌜ r ≡ walkFrom (now (s .entry)) stream (nearest l (now (places .entry)) stream index) index cursor.At cursor.Missing cursor.CrossModule ⌝ }
 {
     let from = start_of(places, l, stream, index);
@@ -193,7 +193,7 @@ pub fn cursor_at(s: &[u8], places: &[u32], l: Layout, stream: Stream, index: u32
 }
 
 // The record of an index of a checked stream.
-pub fn look_up(s: &[u8], places: &[u32], l: Layout, stream: Stream, index: u32) -> Found
+pub fn look_up(s: &[u8], places: &[u32], l: Spacing, stream: Stream, index: u32) -> Found
     ensures { λ r. ⌜ r ≡ lookFrom (now (s .entry)) stream (nearest l (now (places .entry)) stream index) index found.Record found.Missing found.CrossModule ⌝ }
 {
     match cursor_at(s, places, l, stream, index) {
@@ -261,10 +261,10 @@ pub fn entries(n: usize) -> u32
 }
 
 // One part alone.
-pub fn strided_by(stride: u32, room: u32) -> Layout
+pub fn strided_by(stride: u32, room: u32) -> Spacing
     ensures { λ r. ⌜ r ≡ strided stride room ⌝ }
 {
-    Layout {
+    Spacing {
         stride,
         room,
         second: 0xffff_ffff,
@@ -281,25 +281,25 @@ pub fn check_with_stride(s: &[u8], which: StreamKind, stride: u32, places: &mut 
     let Head::Good(first, end, stop) = header_of(s) else {
         return NotedCheck {
             check: StreamCheck::Refused(Refusal::Header(which)),
-            layout: strided_by(1, room),
+            spacing: strided_by(1, room),
         };
     };
     let step = stride_or(stride, end - first, places.len());
-    let layout = strided_by(step, room);
+    let spacing = strided_by(step, room);
     let Place::At(at) = behind_noting(&s[..stop], 56, end - first, step, places) else {
         return NotedCheck {
             check: StreamCheck::Refused(Refusal::Tiling(which)),
-            layout,
+            spacing,
         };
     };
     if at == stop {
         return NotedCheck {
             check: StreamCheck::Good(Stream { first, end, stop }),
-            layout,
+            spacing,
         };
     }
     NotedCheck {
         check: StreamCheck::Refused(Refusal::Tiling(which)),
-        layout,
+        spacing,
     }
 }

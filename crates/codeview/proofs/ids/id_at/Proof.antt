@@ -12,8 +12,8 @@ use Rattle.codeview.proofs.ids.id_at.Tie as tie
 places-in-requires : tie.Need-places-in-requires
 places-in-requires c κs = search needs
 
-layout-in-requires : tie.Need-layout-in-requires
-layout-in-requires c κs = search needs
+spacing-in-requires : tie.Need-spacing-in-requires
+spacing-in-requires c κs = search needs
 
 stream-in-requires : tie.Need-stream-in-requires
 stream-in-requires c κs = search needs
@@ -44,22 +44,22 @@ enum-told-2 c = search needs
 
 returns : tie.Need-returns
 unfolding idFrom part
-returns c = rw (← c .before .before .before .before .before .before .before .before .places-in .ensures, ← c .before .before .before .before .before .before .before .layout-in .ensures, ← c .before .before .before .before .before .before .stream-in .ensures, look-by _ _ _ _ (c .before .before .before .before .before .look-up .ensures) (c .before .before .before .kind .given .1), c .decode-id .ensures)
+returns c = rw (← c .before .before .before .before .before .before .before .before .places-in .ensures, ← c .before .before .before .before .before .before .before .spacing-in .ensures, ← c .before .before .before .before .before .before .stream-in .ensures, look-by _ _ _ _ (c .before .before .before .before .before .look-up .ensures) (c .before .before .before .kind .given .1), c .decode-id .ensures)
 
 returns-2 : tie.Need-returns-2
 unfolding idFrom
-returns-2 c = rw (← c .before .before .before .before .before .places-in .ensures, ← c .before .before .before .before .layout-in .ensures, ← c .before .before .before .stream-in .ensures, look-by _ _ _ _ (c .before .before .look-up .ensures) (c .enum-told .given .1))
+returns-2 c = rw (← c .before .before .before .before .before .places-in .ensures, ← c .before .before .before .before .spacing-in .ensures, ← c .before .before .before .stream-in .ensures, look-by _ _ _ _ (c .before .before .look-up .ensures) (c .enum-told .given .1))
 
 returns-3 : tie.Need-returns-3
 unfolding idFrom
-returns-3 c = rw (← c .before .before .before .before .before .places-in .ensures, ← c .before .before .before .before .layout-in .ensures, ← c .before .before .before .stream-in .ensures, look-by _ _ _ _ (c .before .before .look-up .ensures) (c .enum-told2 .given .1))
+returns-3 c = rw (← c .before .before .before .before .before .places-in .ensures, ← c .before .before .before .before .spacing-in .ensures, ← c .before .before .before .stream-in .ensures, look-by _ _ _ _ (c .before .before .look-up .ensures) (c .enum-told2 .given .1))
 
 pub id-at-spec : {M : Type 1} → statement M
 id-at-spec =
     tie.close
     (tie.spec
     places-in-requires
-    layout-in-requires
+    spacing-in-requires
     stream-in-requires
     look-up-requires
     enum-known-kind

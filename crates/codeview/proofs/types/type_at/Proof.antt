@@ -20,8 +20,8 @@ returns c = rw (lt-ltb _ _ (c .before .if1 .taken), c .primitive-type .ensures)
 places-in-requires : tie.Need-places-in-requires
 places-in-requires c κs = search needs
 
-layout-in-requires : tie.Need-layout-in-requires
-layout-in-requires c κs = search needs
+spacing-in-requires : tie.Need-spacing-in-requires
+spacing-in-requires c κs = search needs
 
 stream-in-requires : tie.Need-stream-in-requires
 stream-in-requires c κs = search needs
@@ -52,15 +52,15 @@ enum-told-2 c = search needs
 
 returns-2 : tie.Need-returns-2
 unfolding typeFrom part
-returns-2 c = rw (le-ltb _ _ (c .before .before .before .before .before .before .before .before .before .if1 .left), ← c .before .before .before .before .before .before .before .before .places-in .ensures, ← c .before .before .before .before .before .before .before .layout-in .ensures, ← c .before .before .before .before .before .before .stream-in .ensures, look-by _ _ _ _ (c .before .before .before .before .before .look-up .ensures) (c .before .before .before .kind .given .1), c .decode-type .ensures)
+returns-2 c = rw (le-ltb _ _ (c .before .before .before .before .before .before .before .before .before .if1 .left), ← c .before .before .before .before .before .before .before .before .places-in .ensures, ← c .before .before .before .before .before .before .before .spacing-in .ensures, ← c .before .before .before .before .before .before .stream-in .ensures, look-by _ _ _ _ (c .before .before .before .before .before .look-up .ensures) (c .before .before .before .kind .given .1), c .decode-type .ensures)
 
 returns-3 : tie.Need-returns-3
 unfolding typeFrom
-returns-3 c = rw (le-ltb _ _ (c .before .before .before .before .before .before .if1 .left), ← c .before .before .before .before .before .places-in .ensures, ← c .before .before .before .before .layout-in .ensures, ← c .before .before .before .stream-in .ensures, look-by _ _ _ _ (c .before .before .look-up .ensures) (c .enum-told .given .1))
+returns-3 c = rw (le-ltb _ _ (c .before .before .before .before .before .before .if1 .left), ← c .before .before .before .before .before .places-in .ensures, ← c .before .before .before .before .spacing-in .ensures, ← c .before .before .before .stream-in .ensures, look-by _ _ _ _ (c .before .before .look-up .ensures) (c .enum-told .given .1))
 
 returns-4 : tie.Need-returns-4
 unfolding typeFrom
-returns-4 c = rw (le-ltb _ _ (c .before .before .before .before .before .before .if1 .left), ← c .before .before .before .before .before .places-in .ensures, ← c .before .before .before .before .layout-in .ensures, ← c .before .before .before .stream-in .ensures, look-by _ _ _ _ (c .before .before .look-up .ensures) (c .enum-told2 .given .1))
+returns-4 c = rw (le-ltb _ _ (c .before .before .before .before .before .before .if1 .left), ← c .before .before .before .before .before .places-in .ensures, ← c .before .before .before .before .spacing-in .ensures, ← c .before .before .before .stream-in .ensures, look-by _ _ _ _ (c .before .before .look-up .ensures) (c .enum-told2 .given .1))
 
 pub type-at-spec : {M : Type 1} → statement M
 type-at-spec =
@@ -69,7 +69,7 @@ type-at-spec =
     primitive-type-requires
     returns
     places-in-requires
-    layout-in-requires
+    spacing-in-requires
     stream-in-requires
     look-up-requires
     enum-known-kind

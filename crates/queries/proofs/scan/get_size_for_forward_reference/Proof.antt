@@ -19,8 +19,8 @@ abbrev μ-loop : tie.MeasureT-loop
 stream-in-requires : tie.Need-stream-in-requires Inv-loop μ-loop
 stream-in-requires c κs = search needs
 
-layout-in-requires : tie.Need-layout-in-requires Inv-loop μ-loop
-layout-in-requires c κs = search needs
+spacing-in-requires : tie.Need-spacing-in-requires Inv-loop μ-loop
+spacing-in-requires c κs = search needs
 
 places-in-requires : tie.Need-places-in-requires Inv-loop μ-loop
 places-in-requires c κs = search needs
@@ -53,7 +53,7 @@ enum-known-size : tie.Need-enum-known-size Inv-loop μ-loop
 enum-known-size c = search needs
 
 returns-2 : tie.Need-returns-2 Inv-loop μ-loop
-returns-2 c = range-full _ _ _ _ _ (c .before .before .before .before .before .before .before .loop .inv) (rw (c .before .before .before .before .before .before .before .before .before .before .before .before .before .stream-in .ensures) at (c .before .before .before .before .before .before .loop-test .taken)) (rw (c .before .before .before .before .before .before .before .before .before .before .before .before .before .stream-in .ensures, c .before .before .before .before .before .before .before .before .before .before .before .before .layout-in .ensures) at (c .before .before .before .before .stretch-end .ensures)) (rw (c .before .before .before .before .before .before .before .before .before .before .before .before .before .stream-in .ensures, c .before .before .before .before .before .before .before .before .before .before .before .before .layout-in .ensures, c .before .before .before .before .before .before .before .before .before .before .before .places-in .ensures) at (c .before .before .before .before .before .start-of .ensures)) (rw (c .before .before .before .before .before .before .before .before .before .before .before .before .before .stream-in .ensures) at (c .before .before .before .full-between .ensures)) _ (c .before .size .given .1)
+returns-2 c = range-full _ _ _ _ _ (c .before .before .before .before .before .before .before .loop .inv) (rw (c .before .before .before .before .before .before .before .before .before .before .before .before .before .stream-in .ensures) at (c .before .before .before .before .before .before .loop-test .taken)) (rw (c .before .before .before .before .before .before .before .before .before .before .before .before .before .stream-in .ensures, c .before .before .before .before .before .before .before .before .before .before .before .before .spacing-in .ensures) at (c .before .before .before .before .stretch-end .ensures)) (rw (c .before .before .before .before .before .before .before .before .before .before .before .before .before .stream-in .ensures, c .before .before .before .before .before .before .before .before .before .before .before .before .spacing-in .ensures, c .before .before .before .before .before .before .before .before .before .before .before .places-in .ensures) at (c .before .before .before .before .before .start-of .ensures)) (rw (c .before .before .before .before .before .before .before .before .before .before .before .before .before .stream-in .ensures) at (c .before .before .before .full-between .ensures)) _ (c .before .size .given .1)
 
 enum-told : tie.Need-enum-told Inv-loop μ-loop
 enum-told c = search needs
@@ -62,7 +62,7 @@ loop-less : tie.Need-loop-less Inv-loop μ-loop
 loop-less c = omega (arith, c .before .before .before .stretch-end .ensures, c .before .before .before .before .before .loop-test .taken)
 
 loop-again : tie.Need-loop-again Inv-loop μ-loop
-loop-again c = range-next _ _ _ _ _ (c .before .before .before .before .before .before .loop .inv) (rw (c .before .before .before .before .before .before .before .before .before .before .before .before .stream-in .ensures) at (c .before .before .before .before .before .loop-test .taken)) (rw (c .before .before .before .before .before .before .before .before .before .before .before .before .stream-in .ensures, c .before .before .before .before .before .before .before .before .before .before .before .layout-in .ensures) at (c .before .before .before .stretch-end .ensures)) (rw (c .before .before .before .before .before .before .before .before .before .before .before .before .stream-in .ensures, c .before .before .before .before .before .before .before .before .before .before .before .layout-in .ensures, c .before .before .before .before .before .before .before .before .before .before .places-in .ensures) at (c .before .before .before .before .start-of .ensures)) (rw (c .before .before .before .before .before .before .before .before .before .before .before .before .stream-in .ensures) at (c .before .before .full-between .ensures)) (c .enum-told .given .1)
+loop-again c = range-next _ _ _ _ _ (c .before .before .before .before .before .before .loop .inv) (rw (c .before .before .before .before .before .before .before .before .before .before .before .before .stream-in .ensures) at (c .before .before .before .before .before .loop-test .taken)) (rw (c .before .before .before .before .before .before .before .before .before .before .before .before .stream-in .ensures, c .before .before .before .before .before .before .before .before .before .before .before .spacing-in .ensures) at (c .before .before .before .stretch-end .ensures)) (rw (c .before .before .before .before .before .before .before .before .before .before .before .before .stream-in .ensures, c .before .before .before .before .before .before .before .before .before .before .before .spacing-in .ensures, c .before .before .before .before .before .before .before .before .before .before .places-in .ensures) at (c .before .before .before .before .start-of .ensures)) (rw (c .before .before .before .before .before .before .before .before .before .before .before .before .stream-in .ensures) at (c .before .before .full-between .ensures)) (c .enum-told .given .1)
 
 returns-3 : tie.Need-returns-3 Inv-loop μ-loop
 returns-3 c = range-over _ _ _ _ _ (c .before .loop .inv) (rw (c .before .before .before .before .before .before .before .stream-in .ensures) at (c .loop-test .left))
@@ -74,7 +74,7 @@ get-size-for-forward-reference-spec =
     Inv-loop
     μ-loop
     stream-in-requires
-    layout-in-requires
+    spacing-in-requires
     places-in-requires
     returns
     add-later

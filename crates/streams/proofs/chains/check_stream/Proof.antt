@@ -47,8 +47,8 @@ slice-aggregate-four-chains c = sym (length-take-le _ _ (header-within _ (c .bef
 four-chains-requires : tie.Need-four-chains-requires
 four-chains-requires c κs = omega (arith, length-take (c .before .before .before .before .first .given .0 .1 .1 .0) (now (c .before .before .before .before .before .before .before .before .before .args .s)), header-small _ (c .before .before .before .before .before .before .header-of .ensures) _ _ _ (c .before .before .before .before .first .given .1))
 
-enum-known-layout : tie.Need-enum-known-layout
-enum-known-layout c = search needs
+enum-known-spacing : tie.Need-enum-known-spacing
+enum-known-spacing c = search needs
 
 enum-told-2 : tie.Need-enum-told-2
 enum-told-2 c = search needs
@@ -60,7 +60,7 @@ same-length-3 : tie.Need-same-length-3
 same-length-3 c = c .before .before .before .before .before .four-chains .ensures .sized
 
 returns-3 : tie.Need-returns-3
-returns-3 c = noted-good _ _ (c .before .before .before .before .before .before .before .before .before .before .before .before .header-of .ensures) _ _ (c .before .before .before .before .before .four-chains .ensures .sized) _ _ _ _ (c .before .before .before .before .before .before .before .before .before .before .first .given .1) (c .before .before .before .before .before .four-chains .ensures .tiles _ (c .before .layout .given .1)) (c .before .before .before .before .before .four-chains .ensures .right _ (c .before .layout .given .1))
+returns-3 c = noted-good _ _ (c .before .before .before .before .before .before .before .before .before .before .before .before .header-of .ensures) _ _ (c .before .before .before .before .before .four-chains .ensures .sized) _ _ _ _ (c .before .before .before .before .before .before .before .before .before .before .first .given .1) (c .before .before .before .before .before .four-chains .ensures .tiles _ (c .before .spacing .given .1)) (c .before .before .before .before .before .four-chains .ensures .right _ (c .before .spacing .given .1))
 
 same-length-4 : tie.Need-same-length-4
 same-length-4 c = c .before .before .check-with-stride3 .ensures .sized ∙ c .before .before .before .before .before .before .before .before .four-chains .ensures .sized
@@ -84,7 +84,7 @@ check-stream-spec =
     returns-2
     slice-aggregate-four-chains
     four-chains-requires
-    enum-known-layout
+    enum-known-spacing
     enum-told-2
     check-with-stride-requires-3
     same-length-3

@@ -1,10 +1,10 @@
 -- Each number is the list's.
 -- Assumes nothing.
 use native.Mathlib.Omega.{arith}
-use Rattle.streams.specs.Bounds.{layoutIn}
+use Rattle.streams.specs.Bounds.{spacingIn}
 use borrow.Author.Needs.{needs}
-use Rattle.streams.proofs.bounds.layout_in.Statement.{statement}
-use Rattle.streams.proofs.bounds.layout_in.Tie as tie
+use Rattle.streams.proofs.bounds.spacing_in.Statement.{statement}
+use Rattle.streams.proofs.bounds.spacing_in.Tie as tie
 
 start-of-requires : tie.Need-start-of-requires
 start-of-requires c κs = search needs
@@ -58,7 +58,7 @@ shared-slice-read-t31 : tie.Need-shared-slice-read-t31
 shared-slice-read-t31 c = omega (arith, c .before .before .before .before .before .if1 .taken)
 
 returns : tie.Need-returns
-unfolding layoutIn
+unfolding spacingIn
 returns c = rw (c .before .before .before .before .before .before .start-of .ensures .0)
 
 add-number-at : tie.Need-add-number-at
@@ -92,11 +92,11 @@ number-at-requires-5 : tie.Need-number-at-requires-5
 number-at-requires-5 c κs = search needs
 
 returns-2 : tie.Need-returns-2
-unfolding layoutIn
+unfolding spacingIn
 returns-2 c = rw (c .before .before .before .before .number-at .ensures, c .before .before .before .number-at2 .ensures, c .before .before .number-at3 .ensures, c .before .number-at4 .ensures, c .number-at5 .ensures, c .before .before .before .before .before .before .start-of .ensures .0)
 
-pub layout-in-spec : {M : Type 1} → statement M
-layout-in-spec =
+pub spacing-in-spec : {M : Type 1} → statement M
+spacing-in-spec =
     tie.close
     (tie.spec
     start-of-requires
