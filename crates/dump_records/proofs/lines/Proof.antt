@@ -7,10 +7,10 @@ use Rattle.dump_records.proofs.lines.Statement.{statement}
 use Rattle.dump_records.proofs.lines.Tie as tie
 
 abbrev Inv-loop : tie.InvT-loop
-Inv-loop s stream ids first end index₀ index = Unit {0}
+Inv-loop s bounds places which first end index₀ index = Unit {0}
 
 abbrev μ-loop : tie.MeasureT-loop
-μ-loop s stream ids first end index₀ index = end - index
+μ-loop s bounds places which first end index₀ index = end - index
 
 loop-holds : tie.Need-loop-holds Inv-loop μ-loop
 loop-holds c = tt
