@@ -15,7 +15,7 @@ use Rattle.wire.specs.Name.{name, nameEnd}
 use Rattle.wire.specs.declared.name.Name.{Name}
 use Rattle.wire.specs.declared.leaf.Leaf.{Leaf}
 use Rattle.wire.specs.declared.leaf.Leaf.the-variants.{Number, Unread}
-use Rattle.wire.proofs.Laws.{field-short, readLeaf, unreadLeaf}
+use Rattle.wire.proofs.Laws.{field-short, field-long, readLeaf, unreadLeaf}
 use Rattle.streams.specs.Stream.{behind, recordAt, part}
 use Rattle.streams.specs.declared.refusal.Refusal.{Refusal}
 use Rattle.streams.specs.declared.refusal.Refusal.the-variants.{Malformed, Missing, UnlistedKind}
@@ -230,6 +230,25 @@ number-part s start end i w h =
 pub head-cut : (s : List ℕ) (at : ℕ) → length s - at < 8 → false ≡ passedOver s at
 unfolding passedOver
 head-cut s at h = all-field (λ (r : Bool). false ≡ r) 2 s (at + 2) _ _ refl (λ i. field-short 2 s (at + 6) _ false (omega arith))
+
+-- Any other is that of its kind and of its properties, each of two bytes.
+number-two : (s : List ℕ) (at : ℕ) → getD s at 0 + 256 * getD s (at + 1) 0 ≡ number 2 s at
+unfolding number
+number-two s at = omega arith
+
+module _ (s : List ℕ) (at : ℕ) (h : 8 ≤ length s - at) (kind : ℕ) (k : kind ≡ getD s (at + 2) 0 + 256 * getD s (at + 3) 0) where
+  head-read : pick (layoutKind kind) (bit 7 (number 2 s (at + 6))) true ≡ passedOver s at
+  unfolding passedOver
+  head-read =
+      field-long 2 s (at + 6) (λ p. pick (layoutKind kind) (bit 7 p) true) false (number 2 s (at + 6)) (omega arith) refl
+      ∙ field-long 2 s (at + 2) (λ n. field 2 s (at + 6) (λ p. pick (layoutKind n) (bit 7 p) true) false) false kind (omega arith)
+      (k ∙ rw (← add-assoc at 2 1) (number-two s (at + 2)))
+
+  pub head-other : layoutKind kind ≡ false → true ≡ passedOver s at
+  head-other e = rw e at head-read
+
+  pub head-layout : layoutKind kind ≡ true → (p : ℕ) → p ≡ getD s (at + 6) 0 + 256 * getD s (at + 7) 0 → bit 7 p ≡ passedOver s at
+  head-layout e p q = ap (bit 7) (q ∙ rw (← add-assoc at 6 1) (number-two s (at + 6))) ∙ (rw e at head-read)
 
 -- What the head shows: of a layout, property bit 7.
 head-shows : (s : List ℕ) (at : ℕ) → passedOver s at ≡ true → layoutKind (number 2 s (at + 2)) ≡ true → bit 7 (number 2 s (at + 6)) ≡ true

@@ -1,6 +1,6 @@
 // The size of a forward reference: that of the first full record after it with its name. One pass over the heads of the records, from place to place.
 ghost use mathlib.Core.Path.{_≡_};
-ghost use Prim.Native.Nat.{_+_, _≤_, _<_, min, max};
+ghost use Prim.Native.Nat.{_+_, _*_, _≤_, _<_, min, max};
 ghost use Rattle.streams.specs.Places.{servesUntil};
 ghost use Rattle.rules.specs.Text.{sameBytes};
 ghost use Rattle.rules.specs.Record.{matchName};
@@ -26,9 +26,7 @@ use streams::stream::CursorRead;
 use streams::stream::Stream;
 use streams::stream::next_cursor;
 use streams::stream::walk_from;
-use wire::field::Field16;
 use wire::field::left;
-use wire::field::u16_at;
 use wire::name::Name;
 
 // What a record says of a forward reference: its size, or nothing.
@@ -118,6 +116,13 @@ fn is_layout(kind: u16) -> bool
     }
 }
 
+// The number of two bytes.
+fn pair(low: u8, high: u8) -> u16
+    ensures { λ r. ⌜ r ≡ low + 256 * high ⌝ }
+{
+    (low as u16) + 256 * (high as u16)
+}
+
 // Whether the head of the record at a place shows that it is none of these, or a forward reference. It is told without decoding the record.
 fn passed_over(s: &[u8], at: usize) -> bool
     ensures { λ r. ⌜ r ≡ passedOver (now (s .entry)) at ⌝ }
@@ -125,14 +130,8 @@ fn passed_over(s: &[u8], at: usize) -> bool
     if left(s.len(), at) < 8 {
         return false;
     }
-    let Field16::Value(kind) = u16_at(s, at + 2) else {
-        return false;
-    };
-    let Field16::Value(properties) = u16_at(s, at + 6) else {
-        return false;
-    };
-    if is_layout(kind) {
-        return properties / 128 % 2 == 1;
+    if is_layout(pair(s[at + 2], s[at + 3])) {
+        return pair(s[at + 6], s[at + 7]) / 128 % 2 == 1;
     }
     true
 }
