@@ -2,8 +2,8 @@
 use Prim.Native.Nat.{ℕ, zero, suc, _+_, _*_, _-_, _≤_, _<_}
 use native.Mathlib.Nat.{add-assoc}
 use native.Mathlib.Omega.{arith}
-use mathlib.Core.Path.{_≡_, refl, sym, _∙_, ap}
-use mathlib.Core.Bool.{Bool, true, false, _||_}
+use mathlib.Core.Path.{_≡_, refl, _∙_, ap}
+use mathlib.Core.Bool.{Bool, true, false}
 use mathlib.Core.List.{List}
 use lib.ListN.{length, getD, take, drop, length-take}
 use lib.Seq.{getD-take, getD-drop}
@@ -31,7 +31,7 @@ use Rattle.codeview.specs.declared.record.PointerMode.the-variants as mode
 use Rattle.codeview.specs.declared.record.ClassKind.{ClassKind}
 use Rattle.codeview.specs.declared.record.UniqueName.{UniqueName}
 use Rattle.codeview.specs.declared.record.TypeRead.{TypeRead}
-use Rattle.codeview.specs.declared.record.TypeRead.the-variants.{Good, Refused}
+use Rattle.codeview.specs.declared.record.TypeRead.the-variants.{Refused}
 use Rattle.rules.specs.Record.{typeContents, typeAsRead}
 use Rattle.rules.specs.Sizes.{fullNamed, fullOr}
 use Rattle.queries.specs.declared.scan.FullRead.the-variants.{Other}
@@ -226,30 +226,6 @@ number-part s start end i w h =
     number-take w (end - start) (drop start s) i (omega (arith, length-take (end - start) (drop start s)))
     ∙ number-drop w start s i
 
--- A head that reaches past the end shows nothing.
-pub head-cut : (s : List ℕ) (at : ℕ) → length s - at < 8 → false ≡ passedOver s at
-unfolding passedOver
-head-cut s at h = all-field (λ (r : Bool). false ≡ r) 2 s (at + 2) _ _ refl (λ i. field-short 2 s (at + 6) _ false (omega arith))
-
--- Any other is that of its kind and of its properties, each of two bytes.
-number-two : (s : List ℕ) (at : ℕ) → getD s at 0 + 256 * getD s (at + 1) 0 ≡ number 2 s at
-unfolding number
-number-two s at = omega arith
-
-module _ (s : List ℕ) (at : ℕ) (h : 8 ≤ length s - at) (kind : ℕ) (k : kind ≡ getD s (at + 2) 0 + 256 * getD s (at + 3) 0) where
-  head-read : pick (layoutKind kind) (bit 7 (number 2 s (at + 6))) true ≡ passedOver s at
-  unfolding passedOver
-  head-read =
-      field-long 2 s (at + 6) (λ p. pick (layoutKind kind) (bit 7 p) true) false (number 2 s (at + 6)) (omega arith) refl
-      ∙ field-long 2 s (at + 2) (λ n. field 2 s (at + 6) (λ p. pick (layoutKind n) (bit 7 p) true) false) false kind (omega arith)
-      (k ∙ rw (← add-assoc at 2 1) (number-two s (at + 2)))
-
-  pub head-other : layoutKind kind ≡ false → true ≡ passedOver s at
-  head-other e = rw e at head-read
-
-  pub head-layout : layoutKind kind ≡ true → (p : ℕ) → p ≡ getD s (at + 6) 0 + 256 * getD s (at + 7) 0 → bit 7 p ≡ passedOver s at
-  head-layout e p q = ap (bit 7) (q ∙ rw (← add-assoc at 6 1) (number-two s (at + 6))) ∙ (rw e at head-read)
-
 -- What the head shows: of a layout, property bit 7.
 head-shows : (s : List ℕ) (at : ℕ) → passedOver s at ≡ true → layoutKind (number 2 s (at + 2)) ≡ true → bit 7 (number 2 s (at + 6)) ≡ true
 unfolding passedOver
@@ -284,3 +260,27 @@ head-passes s t at index own e = go (behind r at At Beyond) refl
         let n : number 2 (part s (at + 4) x) 2 ≡ number 2 s (at + 6) = number-part s (at + 4) x 2 2 h ∙ ap (λ (m : ℕ). number 2 s m) (add-assoc at 4 2) in
         rw n (head-shows s at e (rw k at l)))))
     go Beyond q = rw (behind-beyond r at q refl found (Refused (Missing index))) (full-bad s own (Missing index) refl)
+
+-- A head that reaches past the end shows nothing.
+pub head-cut : (s : List ℕ) (at : ℕ) → length s - at < 8 → false ≡ passedOver s at
+unfolding passedOver
+head-cut s at h = all-field (λ (r : Bool). false ≡ r) 2 s (at + 2) _ _ refl (λ i. field-short 2 s (at + 6) _ false (omega arith))
+
+-- Any other shows what its kind and its properties say, each a number of two bytes.
+number-two : (s : List ℕ) (at : ℕ) → getD s at 0 + 256 * getD s (at + 1) 0 ≡ number 2 s at
+unfolding number
+number-two s at = omega arith
+
+module _ (s : List ℕ) (at : ℕ) (h : 8 ≤ length s - at) (kind : ℕ) (k : kind ≡ getD s (at + 2) 0 + 256 * getD s (at + 3) 0) where
+  head-read : pick (layoutKind kind) (bit 7 (number 2 s (at + 6))) true ≡ passedOver s at
+  unfolding passedOver
+  head-read =
+      field-long 2 s (at + 6) (λ p. pick (layoutKind kind) (bit 7 p) true) false (number 2 s (at + 6)) (omega arith) refl
+      ∙ field-long 2 s (at + 2) (λ n. field 2 s (at + 6) (λ p. pick (layoutKind n) (bit 7 p) true) false) false kind (omega arith)
+      (k ∙ rw (← add-assoc at 2 1) (number-two s (at + 2)))
+
+  pub head-other : layoutKind kind ≡ false → true ≡ passedOver s at
+  head-other e = rw e at head-read
+
+  pub head-layout : layoutKind kind ≡ true → (p : ℕ) → p ≡ getD s (at + 6) 0 + 256 * getD s (at + 7) 0 → bit 7 p ≡ passedOver s at
+  head-layout e p q = ap (bit 7) (q ∙ rw (← add-assoc at 6 1) (number-two s (at + 6))) ∙ (rw e at head-read)
