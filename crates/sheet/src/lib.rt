@@ -393,8 +393,8 @@ pub fn print_sheet(types: &[u8], ids: &[u8], sheet: &[u8], out: &mut [u8], skip:
     ensures { λ r. ⌜ shown (now (out .exit)) r ≡ laidOut (now (out .entry)) (sheetFit (now (types .entry)) (now (ids .entry)) (now (sheet .entry)) skip (length (now (out .entry)))) ⌝ }
     ensures { λ _. ⌜ SheetContinues (now (types .entry)) (now (ids .entry)) (now (sheet .entry)) skip (length (now (out .entry))) ⌝ }
 {
-    let mut places = [0u32; 1024];
-    let bounds = keep_both(types, ids, 0, &mut places, 512);
+    let mut places = [0u32; 8192];
+    let bounds = keep_both(types, ids, 0, &mut places, 4096);
     let mut line = [0u8; 4160];
     let mut text = [0u8; 4096];
     put_lines(
