@@ -16,10 +16,10 @@
  * call takes as long as its text asks for, however long the streams are; or put the calls into a sheet. (docs/BENCHMARKS.md has figures.)
  *
  * Streams that are made to take long are bounded by a product. For each byte of text that out has room for, a call opens at most 95 indexes. To open one it
- * passes over the records from the nearest noted place on, at most as many as these are apart (stride less one; in a plain call and a sheet up to a 128th
- * of the stream's records), compares the index with those that are open, at most 96, and reads the record, which can have a name of 65,000 bytes. For each
- * array that it writes, which takes two bytes of text at least, it can pass once over all records behind the declaration of a struct, to find its
- * definition. So
+ * passes over the records from the nearest noted place on, at most as many as these are apart (stride less one; in a plain call up to a 64th of the
+ * stream's records, in a sheet up to a 1,024th), compares the index with those that are open, at most 96, and reads the record, which can have a name of
+ * 65,000 bytes. For each array that it writes, which takes two bytes of text at least, it can pass once over all records behind the declaration of a
+ * struct, to find its definition. So
  *
  *     time of a call <= the check + out_len * (95 openings + half a pass over the type stream)
  *

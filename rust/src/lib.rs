@@ -33,7 +33,7 @@
 //! > time of a call ≤ bytes of text × (95 openings + half a pass over the type stream),
 //!
 //! and what a caller can choose is the first factor: the length of the buffer, or [`TypeFormatter::with_text_limit`]. A sheet has the same bound for each
-//! line, with 4,096 bytes of text, and there a look-up passes up to a 128th of the stream's records.
+//! line, with 4,096 bytes of text, and there a look-up passes up to a 1,024th of the stream's records.
 #![warn(missing_docs)]
 
 mod boundary;
