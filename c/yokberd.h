@@ -103,14 +103,15 @@ uint32_t yokberd_get_type_size(const uint8_t *types, size_t types_len, uint32_t 
  *   checked         the numbers to fill: YOKBERD_CHECKED at least, and one for each place
  *
  * Returns how many numbers serve for these streams and this stride. Lend that many: where it is more than checked_len, make a longer array and check again.
- * With fewer every answer is the same, and takes longer.
+ * With fewer every answer is the same, and takes longer. The answer goes by the headers alone: one that says more records than its bytes can hold, of a stream
+ * that is refused, makes it large. More than YOKBERD_CHECKED + 2 + (types_len + ids_len) / 4 / stride numbers are never of use.
  *
  * Over what yokberd_check_streams left in checked for the same bytes, the four calls answer what the plain calls answer, and leave out as they do: a stream
  * that was refused is refused by each call. So keep checked beside the bytes, and check again where these change.
  *
  * They are safe with any other numbers too. Whatever checked holds, a call ends, reads and writes nothing but what it is lent, and is accepted or refused
- * by the numbers above; an array that was never filled, of zeros or of fewer than YOKBERD_CHECKED numbers, is refused as a broken type stream is,
- * YOKBERD_HEADER.
+ * by the numbers above; an array of zeros is refused as a broken type stream is, YOKBERD_HEADER, and zeros are what the check leaves in one of
+ * fewer than YOKBERD_CHECKED numbers.
  */
 #define YOKBERD_CHECKED 19
 size_t yokberd_check_streams(const uint8_t *types, size_t types_len, const uint8_t *ids, size_t ids_len, uint32_t stride, uint32_t *checked,

@@ -202,23 +202,19 @@ impl<'a> TypeFormatter<'a> {
     }
 }
 
-// What the library notes of both streams. Its answer says how many numbers serve; what is lent at first is more than that on any stream that is not refused.
+// What the library notes of both streams. Its answer, how many numbers serve, is not needed: what is lent serves on any stream that is not refused.
 fn check(types: &[u8], ids: &[u8]) -> Vec<u32> {
     let mut checked = vec![0; numbers(types) + numbers(ids)];
-    let serving = boundary::check_streams(types, ids, STRIDE, &mut checked);
-    if serving > checked.len() {
-        checked = vec![0; serving];
-        boundary::check_streams(types, ids, STRIDE, &mut checked);
-    }
+    boundary::check_streams(types, ids, STRIDE, &mut checked);
     checked
 }
 
-// Numbers for a stream by what its header says of its records, each of which has four bytes at least: twice as many as there are places. A stream that is
-// longer than the limit is refused.
+// Numbers for a stream: ten for what is known of it, and its places, by what its header says of its records. Each of these has four bytes at least, and a stream that
+// is longer than the limit is refused, so a header that says more makes no buffer longer.
 fn numbers(stream: &[u8]) -> usize {
     let word = |at: usize| stream.get(at..at + 4).map_or(0, |bytes| u32::from_le_bytes([bytes[0], bytes[1], bytes[2], bytes[3]]));
     let records = word(12).saturating_sub(word(8)) as usize;
-    records.min(stream.len().min(STREAM_LIMIT) / 4) / STRIDE as usize * 2 + 32
+    records.min(stream.len().min(STREAM_LIMIT) / 4).div_ceil(STRIDE as usize) + 10
 }
 
 // The text where it is UTF-8; else a copy with each ill-formed part replaced.
