@@ -16,7 +16,8 @@ use Rattle.wire.specs.Field.{pick}
 use Rattle.streams.specs.declared.refusal.Refusal.{Refusal}
 use Rattle.streams.specs.declared.refusal.Refusal.the-variants.{CircularTypeDefinition, TooManyOpen, ChainTooLong, NoRoom}
 use Rattle.streams.specs.declared.refusal.Refusal.the-variants as refusal
-use Rattle.streams.specs.Refusal.{numberOf, detailOf}
+use Rattle.streams.specs.Refusal.{numberOf, detailOf, refusalOf}
+use Rattle.streams.specs.declared.refusal.StreamKind.the-variants as stream
 use Rattle.streams.proofs.refusal.Refusal.{the-type}
 use denote.Enum.Declared.{tagOf}
 use package.types.Run.{OneOf}
@@ -24,27 +25,65 @@ use Rattle.interpreter.specs.Trace.{Note, End, done, missing, refused, halted, 
 use Rattle.pen.specs.declared.Pen.{Pen}
 use Rattle.pen.specs.declared.Stop.{Stop}
 use Rattle.pen.specs.declared.Stop.the-variants.{No, Missing, Refused}
-use Rattle.pen.specs.Page.{Page, page, gone, put, putAt, unlessStopped, ink, more, ticked, tick, ticks, stopOf, endAs, finish, pageAfter, Wrote, writing, step, lastSince, resumed, goOn, Caught, idle, opened, last, _⨾_, ending, marking, bytesOf, refusedPen, missedPen, unreadPen, counted, unreadTrace}
+use Rattle.pen.specs.Page.{stopIn, Held, held, Page, under, page, ended, gone, put, putAt, unlessStopped, ink, stopOf, endAs, finish, pageAfter, Wrote, writing, step, lastSince, resumed, goOn, Caught, idle, opened, last, _⨾_, ending, marking, bytesOf, refusedPen, missedPen, unreadPen, unreadTrace}
+
+-- The two numbers of a pen, read: a refusal's are its own.
+refusal-back : (f : Refusal) → stopIn (numberOf f) (detailOf f) ≡ Refused f
+unfolding refusalOf
+refusal-back (refusal.UnknownFlags flags) = refl
+refusal-back (refusal.PointerSize size) = refl
+refusal-back (refusal.Header stream.Types) = refl
+refusal-back (refusal.Header stream.Ids) = refl
+refusal-back (refusal.Tiling stream.Types) = refl
+refusal-back (refusal.Tiling stream.Ids) = refl
+refusal-back (refusal.Malformed index) = refl
+refusal-back (refusal.CrossModule index) = refl
+refusal-back (refusal.UnlistedKind kind) = refl
+refusal-back (refusal.Missing index) = refl
+refusal-back (refusal.ArgumentTypeNotArgumentList index) = refl
+refusal-back (refusal.FunctionIdIsNotProcedureType index) = refl
+refusal-back (refusal.MemberFunctionIdIsNotMemberFunctionType index) = refl
+refusal-back (refusal.CircularTypeDefinition index) = refl
+refusal-back (refusal.TooManyOpen index) = refl
+refusal-back (refusal.ChainTooLong index) = refl
+refusal-back refusal.NoRoom = refl
+refusal-back (refusal.UnknownCommand command) = refl
+
+pub held-gone : (limit : ℕ) (f : Refusal) → held (gone limit f) ≡ ended limit f
+held-gone limit f = rw (refusal-back f)
+
+pub stop-none : (p : Pen) → p .stop ≡ 0 → held p .stop ≡ No
+stop-none p e = rw e
+
+pub stop-some : (p : Pen) → (p .stop ≡ 0 → ⊥) → idle (held p .stop) ≡ true
+stop-some p h = rw (ne-eqb (p .stop) 0 h) (by (eqb (p .stop) 17))
+  where
+    by : (b : Bool) → idle (pick b (Missing (p .detail)) (Refused (refusalOf (p .stop) (p .detail)))) ≡ true
+    by true = refl
+    by false = refl
 
 -- one byte, by cases
-pub put-fits : (buf : List ℕ) (p : Pen) (b : ℕ) → p .stop ≡ No → p .at < p .limit
-    → put (page buf p) b ≡ page (set buf (p .at) b) (record { at = p .at + 1; last = b; opened = p .opened; limit = p .limit; stop = No })
+put-fits : (buf : List ℕ) (p : Held) (b : ℕ) → p .stop ≡ No → p .at < p .limit
+    → put (under buf p) b ≡ under (set buf (p .at) b) (record { at = p .at + 1; last = b; limit = p .limit; stop = No })
 unfolding put
 put-fits buf p b h l = simp (h, lt-ltb _ _ l)
 
-pub put-stored : (buf out : List ℕ) (p : Pen) (b : ℕ) → out ≡ set buf (p .at) b → p .stop ≡ No → p .at < p .limit
-    → page out (record { at = p .at + 1; last = b; opened = p .opened; limit = p .limit; stop = No }) ≡ put (page buf p) b
-put-stored buf out p b e h l = rw e (sym (put-fits buf p b h l))
+pub put-stored : (buf out : List ℕ) (p : Pen) (b : ℕ) → out ≡ set buf (p .at) b → p .stop ≡ 0 → p .at < p .limit
+    → page out (record { at = p .at + 1; last = b; limit = p .limit; stop = 0; detail = 0 }) ≡ put (page buf p) b
+put-stored buf out p b e h l = rw e (sym (put-fits buf (held p) b (stop-none p h) l))
 
-pub put-full : (buf : List ℕ) (p : Pen) (b : ℕ) → p .stop ≡ No → p .limit ≤ p .at → put (page buf p) b ≡ page buf (gone (p .limit) NoRoom)
+put-full : (buf : List ℕ) (p : Held) (b : ℕ) → p .stop ≡ No → p .limit ≤ p .at → put (under buf p) b ≡ under buf (ended (p .limit) NoRoom)
 unfolding put
 put-full buf p b h l = simp (h, le-ltb _ _ l)
+
+pub put-gone : (buf : List ℕ) (p : Pen) (b : ℕ) → p .stop ≡ 0 → p .limit ≤ p .at → page buf (gone (p .limit) NoRoom) ≡ put (page buf p) b
+put-gone buf p b h l = ap (under buf) (held-gone (p .limit) NoRoom) ∙ sym (put-full buf (held p) b (stop-none p h) l)
 
 -- a page whose pen has stopped
 abbrev pub Halted : Page → Type 0
 Halted g = idle (g .pen .stop) ≡ true
 
-idle-keeps : {A : Type 0} (x : Stop) (a b : A) → idle x ≡ true → unlessStopped x a b ≡ b
+pub idle-keeps : {A : Type 0} (x : Stop) (a b : A) → idle x ≡ true → unlessStopped x a b ≡ b
 idle-keeps No a b h = absurd (let z : _≡_ {A = ℕ} 0 1 = cc in omega arith)
 idle-keeps (Missing i) a b h = refl
 idle-keeps (Refused f) a b h = refl
@@ -58,21 +97,12 @@ unfolding ink
 ink-halted [] g h = refl
 ink-halted (b ∷ bs) g h = rw (put-halted g b h) (ink-halted bs g h)
 
-tick-halted : (g : Page) → Halted g → tick g ≡ g
-unfolding tick
-tick-halted g h = idle-keeps (g .pen .stop) _ _ h
-
-count-halted : (c : ℕ) (g : Page) → Halted g → ticks g c ≡ g
-unfolding ticks
-count-halted zero g h = refl
-count-halted (suc c) g h = rw (tick-halted g h) (count-halted c g h)
-
 finish-halted : (g : Page) (e : Stop) → Halted g → finish g e ≡ g
-finish-halted g e h = ap (page (g .buf)) (idle-keeps (g .pen .stop) _ _ h)
+finish-halted g e h = ap (under (g .buf)) (idle-keeps (g .pen .stop) _ _ h)
 
 pub run-halted : (g : Page) (t : Trace Refusal) → Halted g → pageAfter g t ≡ g
 unfolding pageAfter
-run-halted g (tr bs e ns c) h = rw (ink-halted bs g h, count-halted (c .opened) g h) (finish-halted g (stopOf e) h)
+run-halted g (tr bs e ns c) h = rw (ink-halted bs g h) (finish-halted g (stopOf e) h)
 
 -- a text and another after it
 pub ink-append : (a : List ℕ) (g : Page) (b : List ℕ) → ink (ink g a) b ≡ ink g (a ++ b)
@@ -98,70 +128,39 @@ ink-turn g h k s i e f l = cc (ink-more g s i l)
 pub ink-all : (g h : Page) (s : List ℕ) (i : ℕ) → h ≡ ink g (take i s) → length s ≤ i → h ≡ ink g s
 ink-all g h s i e l = rw (take-all i s l) at e
 
--- an opening and a byte
-tick-pick : (b : Bool) (g h : Page) → tick (pick b g h) ≡ pick b (tick g) (tick h)
-tick-pick true g h = refl
-tick-pick false g h = refl
-
-tick-put-at : (x : Stop) (b : List ℕ) (at l o lim v : ℕ)
-    → let g = page b (record { at = at; last = l; opened = o; limit = lim; stop = x }) in tick (put g v) ≡ put (tick g) v
-unfolding put tick
-tick-put-at No b at l o lim v = tick-pick (ltb at lim) _ _
-tick-put-at (Missing i) b at l o lim v = refl
-tick-put-at (Refused f) b at l o lim v = refl
-
-tick-put : (g : Page) (v : ℕ) → tick (put g v) ≡ put (tick g) v
-tick-put g v = tick-put-at (g .pen .stop) (g .buf) (g .pen .at) (g .pen .last) (g .pen .opened) (g .pen .limit) v
-
-tick-ink : (bs : List ℕ) (g : Page) → tick (ink g bs) ≡ ink (tick g) bs
-unfolding ink
-tick-ink [] g = refl
-tick-ink (b ∷ bs) g = tick-ink bs (put g b) ∙ ap (λ h. ink h bs) (tick-put g b)
-
-count-ink : (c : ℕ) (g : Page) (bs : List ℕ) → ticks (ink g bs) c ≡ ink (ticks g c) bs
-unfolding ticks
-count-ink zero g bs = refl
-count-ink (suc c) g bs = ap (λ h. ticks h c) (tick-ink bs g) ∙ count-ink c (tick g) bs
-
-count-count : (c : ℕ) (g : Page) (d : ℕ) → ticks (ticks g c) d ≡ ticks g (c + d)
-unfolding ticks
-count-count zero g d = rw zero-add
-count-count (suc c) g d = count-count c (tick g) d ∙ rw suc-add
-
-finish-no-at : (x : Stop) (b : List ℕ) (at l o lim : ℕ) → let g = page b (record { at = at; last = l; opened = o; limit = lim; stop = x }) in finish g No ≡ g
-finish-no-at No b at l o lim = refl
-finish-no-at (Missing i) b at l o lim = refl
-finish-no-at (Refused f) b at l o lim = refl
+finish-no-at : (x : Stop) (b : List ℕ) (at l lim : ℕ) → let g = under b (record { at = at; last = l; limit = lim; stop = x }) in finish g No ≡ g
+finish-no-at No b at l lim = refl
+finish-no-at (Missing i) b at l lim = refl
+finish-no-at (Refused f) b at l lim = refl
 
 finish-no : (g : Page) → finish g No ≡ g
-finish-no g = finish-no-at (g .pen .stop) (g .buf) (g .pen .at) (g .pen .last) (g .pen .opened) (g .pen .limit)
+finish-no g = finish-no-at (g .pen .stop) (g .buf) (g .pen .at) (g .pen .last) (g .pen .limit)
 
-run-done : (g : Page) (bs : List ℕ) (ns : List Note) (c : Count) → pageAfter g (tr bs done ns c) ≡ ticks (ink g bs) (c .opened)
+run-done : (g : Page) (bs : List ℕ) (ns : List Note) (c : Count) → pageAfter g (tr bs done ns c) ≡ ink g bs
 unfolding pageAfter stopOf
-run-done g bs ns c = finish-no (ticks (ink g bs) (c .opened))
+run-done g bs ns c = finish-no (ink g bs)
 
 pub run-say : (g : Page) (bs : List ℕ) → pageAfter g (writing bs) ≡ ink g bs
-unfolding ticks
 run-say g bs = run-done g bs [] (count 0 0)
 
 -- what is written before a trace
-run-prefix : (g : Page) (bs : List ℕ) (ns : List Note) (c : Count) (t : Trace Refusal) → pageAfter g (prefix bs ns c t) ≡ pageAfter (ticks (ink g bs) (c .opened)) t
+run-prefix : (g : Page) (bs : List ℕ) (ns : List Note) (c : Count) (t : Trace Refusal) → pageAfter g (prefix bs ns c t) ≡ pageAfter (ink g bs) t
 unfolding pageAfter
-run-prefix g bs ns c (tr cs e ms d) = rw (← count-ink, ← count-count, ink-append)
+run-prefix g bs ns c (tr cs e ms d) = rw ink-append
 
-finish-halts-at : (x : Stop) (b : List ℕ) (at l o lim : ℕ) (e : Stop) → idle e ≡ true → Halted (finish (page b (record { at = at; last = l; opened = o; limit = lim; stop = x })) e)
-finish-halts-at No b at l o lim No h = h
-finish-halts-at No b at l o lim (Missing i) h = refl
-finish-halts-at No b at l o lim (Refused f) h = refl
-finish-halts-at (Missing i) b at l o lim e h = refl
-finish-halts-at (Refused f) b at l o lim e h = refl
+finish-halts-at : (x : Stop) (b : List ℕ) (at l lim : ℕ) (e : Stop) → idle e ≡ true → Halted (finish (under b (record { at = at; last = l; limit = lim; stop = x })) e)
+finish-halts-at No b at l lim No h = h
+finish-halts-at No b at l lim (Missing i) h = refl
+finish-halts-at No b at l lim (Refused f) h = refl
+finish-halts-at (Missing i) b at l lim e h = refl
+finish-halts-at (Refused f) b at l lim e h = refl
 
 finish-halts : (g : Page) (e : Stop) → idle e ≡ true → Halted (finish g e)
-finish-halts g e h = finish-halts-at (g .pen .stop) (g .buf) (g .pen .at) (g .pen .last) (g .pen .opened) (g .pen .limit) e h
+finish-halts g e h = finish-halts-at (g .pen .stop) (g .buf) (g .pen .at) (g .pen .last) (g .pen .limit) e h
 
 run-stays : (g : Page) (bs : List ℕ) (e : End Refusal) (ns : List Note) (c : Count) (u : Trace Refusal) → idle (stopOf e) ≡ true → pageAfter (pageAfter g (tr bs e ns c)) u ≡ pageAfter g (tr bs e ns c)
 unfolding pageAfter
-run-stays g bs e ns c u h = run-halted _ u (finish-halts (ticks (ink g bs) (c .opened)) (stopOf e) h)
+run-stays g bs e ns c u h = run-halted _ u (finish-halts (ink g bs) (stopOf e) h)
 
 idle-refused : (f : Refusal) → idle (stopOf (refused f)) ≡ true
 unfolding stopOf
@@ -208,49 +207,45 @@ wrote-idle {g} {t} h = record { is = sym (run-halted g t h) }
 -- what stops a pen: an end with nothing written before it
 finish-refused : (b : List ℕ) (p : Pen) (f : Refusal) → page b (refusedPen p f) ≡ finish (page b p) (Refused f)
 unfolding refusedPen
-finish-refused b p f = refl
+finish-refused b p f = by (held p .stop) refl
+  where
+    by : (x : Stop) → held p .stop ≡ x → page b (unlessStopped x (gone (p .limit) f) p) ≡ under b (unlessStopped x (ended (p .limit) f) (held p))
+    by No e = ap (under b) (held-gone (p .limit) f)
+    by (Missing i) e = refl
+    by (Refused g) e = refl
 
 pub wrote-stop : (b : List ℕ) (p q : Pen) (e : End Refusal) (n : ℕ) (f : Refusal) → stopOf e ≡ Refused f → q ≡ refusedPen p f → Wrote (page b p) (tr [] e [] (count 0 n)) (page b q)
-unfolding pageAfter ink ticks
+unfolding pageAfter ink
 wrote-stop b p q e n f h k = record { is = rw (h, k) (finish-refused b p f) }
 
-pub wrote-missing : (b : List ℕ) (p q : Pen) (i : ℕ) → page b q ≡ finish (page b p) (Missing i) → Wrote (page b p) (tr [] (missing i) [] (count 0 0)) (page b q)
-unfolding pageAfter ink ticks stopOf
-wrote-missing b p q i e = record { is = e }
+finish-missing : (b : List ℕ) (p : Pen) (i : ℕ) → page b (missedPen p i) ≡ finish (page b p) (Missing i)
+unfolding missedPen
+finish-missing b p i = by (held p .stop) refl
+  where
+    by : (x : Stop) → held p .stop ≡ x
+        → page b (unlessStopped x (record { at = p .at; last = p .last; limit = p .limit; stop = 17; detail = i }) p) ≡ under b (unlessStopped x (endAs (held p) (Missing i)) (held p))
+    by No e = refl
+    by (Missing j) e = refl
+    by (Refused g) e = refl
+
+wrote-missing : (b : List ℕ) (p q : Pen) (i : ℕ) → q ≡ missedPen p i → Wrote (page b p) (tr [] (missing i) [] (count 0 0)) (page b q)
+unfolding pageAfter ink stopOf
+wrote-missing b p q i e = record { is = rw e (finish-missing b p i) }
 
 -- taking up an index without opening it changes nothing
 pub wrote-step : {g : Page} → Wrote g step g
-unfolding ink ticks step
+unfolding ink step
 wrote-step {g} = record { is = sym (run-done g [] [] (count 0 1)) }
 
--- a count that is full stays
-counted-full-at : (x : Stop) (at l o lim : ℕ) → x ≡ No → 18446744073709551615 ≤ o
-    → let p : Pen = record { at = at; last = l; opened = o; limit = lim; stop = x } in p ≡ counted p
-unfolding counted
-counted-full-at No at l o lim e h = rw (le-ltb o 18446744073709551615 h)
-counted-full-at (Missing i) at l o lim e h = refl
-counted-full-at (Refused f) at l o lim e h = refl
-
-pub counted-full : (p : Pen) → p .stop ≡ No → 18446744073709551615 ≤ p .opened → p ≡ counted p
-counted-full p e h = counted-full-at (p .stop) (p .at) (p .last) (p .opened) (p .limit) e h
-
-wrote-tick : (g h : Page) → h ≡ tick g → Wrote g opened h
-unfolding ink ticks opened
-wrote-tick g h e = record { is = e ∙ sym (run-done g [] [] (count 1 1)) }
-
-counted-page : (x : Stop) (b : List ℕ) (p : Pen) → page b (unlessStopped x (ticked p) p) ≡ unlessStopped x (page b (ticked p)) (page b p)
-counted-page No b p = refl
-counted-page (Missing i) b p = refl
-counted-page (Refused f) b p = refl
-
-pub wrote-counted : (b : List ℕ) (p q : Pen) → q ≡ counted p → Wrote (page b p) opened (page b q)
-unfolding counted tick
-wrote-counted b p q e = wrote-tick (page b p) (page b q) (rw e (counted-page (p .stop) b p))
+-- nor does opening it
+pub wrote-opened : {g : Page} → Wrote g opened g
+unfolding ink opened
+wrote-opened {g} = record { is = sym (run-done g [] [] (count 1 1)) }
 
 -- a pen that has not stopped, refused
-pub refused-alive : (p : Pen) (f : Refusal) → idle (p .stop) ≡ false → refusedPen p f ≡ gone (p .limit) f
+pub refused-alive : (p : Pen) (f : Refusal) → idle (held p .stop) ≡ false → refusedPen p f ≡ gone (p .limit) f
 unfolding refusedPen
-refused-alive p f h = by (p .stop) h
+refused-alive p f h = by (held p .stop) h
   where
     by : (x : Stop) → idle x ≡ false → unlessStopped x (gone (p .limit) f) p ≡ gone (p .limit) f
     by No h = refl
@@ -259,12 +254,12 @@ refused-alive p f h = by (p .stop) h
 
 -- what could not be read inside a type
 pub wrote-unread : (b : List ℕ) (p q : Pen) (f : Refusal) → q ≡ unreadPen p f → Wrote (page b p) (unreadTrace f) (page b q)
-unfolding unreadPen unreadTrace missedPen stopOf
+unfolding unreadPen unreadTrace stopOf
 wrote-unread b p q f e = by (eqb (numberOf f) 8) e
   where
-    by : (x : Bool) → q ≡ pick x (unlessStopped (p .stop) (endAs p (Missing (detailOf f))) p) (refusedPen p f)
+    by : (x : Bool) → q ≡ pick x (missedPen p (detailOf f)) (refusedPen p f)
         → Wrote (page b p) (pick x (tr [] (missing (detailOf f)) [] (count 0 0)) (tr [] (refused f) [] (count 0 0))) (page b q)
-    by true h = wrote-missing b p q (detailOf f) (ap (λ (x : Pen). page b x) h)
+    by true h = wrote-missing b p q (detailOf f) h
     by false h = wrote-stop b p q (refused f) 0 f refl h
 
 -- A refusal's number is its place among the cases, from 1 on: so one that is none of some cases has none of their numbers.
@@ -298,33 +293,22 @@ not-number k ks f h n =
 Ended : Page → ℕ → ℕ → Type 0
 Ended g start b = Halted g ⊎ ((lastSince (g .pen) start ≡ b) × (start ≤ g .pen .at))
 
-ends-put-no : (b : List ℕ) (p : Pen) (v start : ℕ) → p .stop ≡ No → start ≤ p .at → Dec (p .at < p .limit) → Ended (put (page b p) v) start v
+ends-put-no : (b : List ℕ) (p : Held) (v start : ℕ) → p .stop ≡ No → start ≤ p .at → Dec (p .at < p .limit) → Ended (put (under b p) v) start v
 unfolding Ended lastSince
 ends-put-no b p v start e h (yes l) = rw (put-fits b p v e l) (inr (rw (lt-leb (p .at + 1) start (omega arith)), omega arith))
 ends-put-no b p v start e h (no l) = rw (put-full b p v e (omega arith)) (inl refl)
 
-ends-put-at : (x : Stop) (b : List ℕ) (at l o lim v start : ℕ) → start ≤ at → Ended (put (page b (record { at = at; last = l; opened = o; limit = lim; stop = x })) v) start v
+ends-put-at : (x : Stop) (b : List ℕ) (at l lim v start : ℕ) → start ≤ at → Ended (put (under b (record { at = at; last = l; limit = lim; stop = x })) v) start v
 unfolding Ended put
-ends-put-at No b at l o lim v start h = ends-put-no b (record { at = at; last = l; opened = o; limit = lim; stop = No }) v start refl h (decLt at lim)
-ends-put-at (Missing i) b at l o lim v start h = inl refl
-ends-put-at (Refused f) b at l o lim v start h = inl refl
+ends-put-at No b at l lim v start h = ends-put-no b (record { at = at; last = l; limit = lim; stop = No }) v start refl h (decLt at lim)
+ends-put-at (Missing i) b at l lim v start h = inl refl
+ends-put-at (Refused f) b at l lim v start h = inl refl
 
 ends-ink : (bs : List ℕ) (g : Page) (start x : ℕ) → Ended g start x → Ended (ink g bs) start (last x bs)
 unfolding ink last Ended
 ends-ink [] g start x h = h
 ends-ink (b ∷ bs) g start x (inl h) = ends-ink bs (put g b) start b (inl (rw (put-halted g b h) h))
-ends-ink (b ∷ bs) g start x (inr h) = ends-ink bs (put g b) start b (ends-put-at (g .pen .stop) (g .buf) (g .pen .at) (g .pen .last) (g .pen .opened) (g .pen .limit) b start (h .1))
-
-ends-tick-at : (y : Stop) (b : List ℕ) (at l o lim start x : ℕ) → let g = page b (record { at = at; last = l; opened = o; limit = lim; stop = y }) in Ended g start x → Ended (tick g) start x
-unfolding Ended tick lastSince
-ends-tick-at No b at l o lim start x h = h
-ends-tick-at (Missing i) b at l o lim start x h = h
-ends-tick-at (Refused f) b at l o lim start x h = h
-
-ends-count : (c : ℕ) (g : Page) (start x : ℕ) → Ended g start x → Ended (ticks g c) start x
-unfolding ticks
-ends-count zero g start x h = h
-ends-count (suc c) g start x h = ends-count c (tick g) start x (ends-tick-at (g .pen .stop) (g .buf) (g .pen .at) (g .pen .last) (g .pen .opened) (g .pen .limit) start x h)
+ends-ink (b ∷ bs) g start x (inr h) = ends-ink bs (put g b) start b (ends-put-at (g .pen .stop) (g .buf) (g .pen .at) (g .pen .last) (g .pen .limit) b start (h .1))
 
 fresh : (g : Page) → Ended g (g .pen .at) 0
 unfolding Ended lastSince
@@ -339,15 +323,15 @@ lasts g start x (inl h) = inl h
 lasts g start x (inr h) = inr (h .0)
 
 ends-done : (g : Page) (bs : List ℕ) (ns : List Note) (c : Count) → Lasts (pageAfter g (tr bs done ns c)) (g .pen .at) (last 0 bs)
-ends-done g bs ns c = rw (run-done g bs ns c) (lasts (ticks (ink g bs) (c .opened)) (g .pen .at) (last 0 bs) (ends-count (c .opened) (ink g bs) (g .pen .at) (last 0 bs) (ends-ink bs g (g .pen .at) 0 (fresh g))))
+ends-done g bs ns c = rw (run-done g bs ns c) (lasts (ink g bs) (g .pen .at) (last 0 bs) (ends-ink bs g (g .pen .at) 0 (fresh g)))
 
 ends-run : (g : Page) (t : Trace Refusal) → Lasts (pageAfter g t) (g .pen .at) (last 0 (bytesOf t))
 unfolding pageAfter Lasts stopOf
 ends-run g (tr bs done ns c) = ends-done g bs ns c
-ends-run g (tr bs (missing i) ns c) = inl (finish-halts (ticks (ink g bs) (c .opened)) (Missing i) refl)
-ends-run g (tr bs (refused f) ns c) = inl (finish-halts (ticks (ink g bs) (c .opened)) (stopOf (refused f)) (idle-refused f))
-ends-run g (tr bs (halted x) ns c) = inl (finish-halts (ticks (ink g bs) (c .opened)) (stopOf (halted x)) (idle-halted x))
-ends-run g (tr bs unfinished ns c) = inl (finish-halts (ticks (ink g bs) (c .opened)) (stopOf unfinished) refl)
+ends-run g (tr bs (missing i) ns c) = inl (finish-halts (ink g bs) (Missing i) refl)
+ends-run g (tr bs (refused f) ns c) = inl (finish-halts (ink g bs) (stopOf (refused f)) (idle-refused f))
+ends-run g (tr bs (halted x) ns c) = inl (finish-halts (ink g bs) (stopOf (halted x)) (idle-halted x))
+ends-run g (tr bs unfinished ns c) = inl (finish-halts (ink g bs) (stopOf unfinished) refl)
 
 -- a writing that goes by the last byte of the one before it
 pub wrote-after : {g h k : Page} {t : Trace Refusal} (f : ℕ → Trace Refusal) (start : ℕ) → start ≡ g .pen .at → Wrote g t h → Wrote h (f (lastSince (h .pen) start)) k
@@ -370,27 +354,16 @@ kept-pick : (b : Bool) (g h : Page) → Kept g → Kept h → Kept (pick b g h)
 kept-pick true g h x y = x
 kept-pick false g h x y = y
 
-kept-put-at : (x : Stop) (b : List ℕ) (at l o lim v : ℕ) → let g = page b (record { at = at; last = l; opened = o; limit = lim; stop = x }) in Kept g → Kept (put g v)
+kept-put-at : (x : Stop) (b : List ℕ) (at l lim v : ℕ) → let g = under b (record { at = at; last = l; limit = lim; stop = x }) in Kept g → Kept (put g v)
 unfolding put Kept
-kept-put-at No b at l o lim v h = kept-pick (ltb at lim) _ _ (inl refl) (inr refl)
-kept-put-at (Missing i) b at l o lim v h = h
-kept-put-at (Refused f) b at l o lim v h = h
+kept-put-at No b at l lim v h = kept-pick (ltb at lim) _ _ (inl refl) (inr refl)
+kept-put-at (Missing i) b at l lim v h = h
+kept-put-at (Refused f) b at l lim v h = h
 
 kept-ink : (bs : List ℕ) (g : Page) → Kept g → Kept (ink g bs)
 unfolding ink
 kept-ink [] g h = h
-kept-ink (b ∷ bs) g h = kept-ink bs (put g b) (kept-put-at (g .pen .stop) (g .buf) (g .pen .at) (g .pen .last) (g .pen .opened) (g .pen .limit) b h)
-
-kept-tick-at : (x : Stop) (b : List ℕ) (at l o lim : ℕ) → let g = page b (record { at = at; last = l; opened = o; limit = lim; stop = x }) in Kept g → Kept (tick g)
-unfolding tick Kept
-kept-tick-at No b at l o lim h = inl refl
-kept-tick-at (Missing i) b at l o lim h = h
-kept-tick-at (Refused f) b at l o lim h = h
-
-kept-count : (c : ℕ) (g : Page) → Kept g → Kept (ticks g c)
-unfolding ticks
-kept-count zero g h = h
-kept-count (suc c) g h = kept-count c (tick g) (kept-tick-at (g .pen .stop) (g .buf) (g .pen .at) (g .pen .last) (g .pen .opened) (g .pen .limit) h)
+kept-ink (b ∷ bs) g h = kept-ink bs (put g b) (kept-put-at (g .pen .stop) (g .buf) (g .pen .at) (g .pen .last) (g .pen .limit) b h)
 
 caught-kept-at : (x : Stop) (g : Page) (u : ℕ → Trace Refusal) → g .pen .stop ≡ x → Kept g → goOn x u g ≡ g
 unfolding Kept
@@ -399,21 +372,21 @@ caught-kept-at (Missing i) g u e (inl h) = absurd (let z : _≡_ {A = ℕ} 0 1 =
 caught-kept-at (Missing i) g u e (inr h) = absurd (let z : _≡_ {A = ℕ} 0 1 = cc in omega arith)
 caught-kept-at (Refused f) g u e h = refl
 
-caught-missing-at : (x : Stop) (b : List ℕ) (at l o lim i : ℕ) (u : ℕ → Trace Refusal) → let g = page b (record { at = at; last = l; opened = o; limit = lim; stop = x }) in Kept g
+caught-missing-at : (x : Stop) (b : List ℕ) (at l lim i : ℕ) (u : ℕ → Trace Refusal) → let g = under b (record { at = at; last = l; limit = lim; stop = x }) in Kept g
     → goOn (finish g (Missing i) .pen .stop) u (finish g (Missing i)) ≡ pageAfter g (u i)
 unfolding Kept
-caught-missing-at No b at l o lim i u h = refl
-caught-missing-at (Missing j) b at l o lim i u (inl h) = absurd (let z : _≡_ {A = ℕ} 0 1 = cc in omega arith)
-caught-missing-at (Missing j) b at l o lim i u (inr h) = absurd (let z : _≡_ {A = ℕ} 0 1 = cc in omega arith)
-caught-missing-at (Refused f) b at l o lim i u h = sym (run-halted (page b (record { at = at; last = l; opened = o; limit = lim; stop = Refused f })) (u i) refl)
+caught-missing-at No b at l lim i u h = refl
+caught-missing-at (Missing j) b at l lim i u (inl h) = absurd (let z : _≡_ {A = ℕ} 0 1 = cc in omega arith)
+caught-missing-at (Missing j) b at l lim i u (inr h) = absurd (let z : _≡_ {A = ℕ} 0 1 = cc in omega arith)
+caught-missing-at (Refused f) b at l lim i u h = sym (run-halted (under b (record { at = at; last = l; limit = lim; stop = Refused f })) (u i) refl)
 
-caught-stop-at : (x y : Stop) (b : List ℕ) (at l o lim : ℕ) (u : ℕ → Trace Refusal) → let g = page b (record { at = at; last = l; opened = o; limit = lim; stop = x }) in Kept g
+caught-stop-at : (x y : Stop) (b : List ℕ) (at l lim : ℕ) (u : ℕ → Trace Refusal) → let g = under b (record { at = at; last = l; limit = lim; stop = x }) in Kept g
     → (f : Refusal) → y ≡ Refused f → goOn (finish g y .pen .stop) u (finish g y) ≡ finish g y
 unfolding Kept
-caught-stop-at No y b at l o lim u h f e = rw e
-caught-stop-at (Missing j) y b at l o lim u (inl h) f e = absurd (let z : _≡_ {A = ℕ} 0 1 = cc in omega arith)
-caught-stop-at (Missing j) y b at l o lim u (inr h) f e = absurd (let z : _≡_ {A = ℕ} 0 1 = cc in omega arith)
-caught-stop-at (Refused k) y b at l o lim u h f e = refl
+caught-stop-at No y b at l lim u h f e = rw e
+caught-stop-at (Missing j) y b at l lim u (inl h) f e = absurd (let z : _≡_ {A = ℕ} 0 1 = cc in omega arith)
+caught-stop-at (Missing j) y b at l lim u (inr h) f e = absurd (let z : _≡_ {A = ℕ} 0 1 = cc in omega arith)
+caught-stop-at (Refused k) y b at l lim u h f e = refl
 
 halted-as : (x : Note) → (f : Refusal) × (stopOf (halted x) ≡ Refused f)
 unfolding stopOf
@@ -425,18 +398,18 @@ module _ (u : ℕ → Trace Refusal) (g : Page) (alive : g .pen .stop ≡ No) wh
   caught-ended : (bs : List ℕ) (e : End Refusal) (ns : List Note) (c : Count) (f : Refusal) → stopOf e ≡ Refused f → goOn (pageAfter g (tr bs e ns c) .pen .stop) u (pageAfter g (tr bs e ns c)) ≡ pageAfter g (tr bs e ns c)
   unfolding pageAfter Kept
   caught-ended bs e ns c f n =
-      let h = ticks (ink g bs) (c .opened) in
-      caught-stop-at (h .pen .stop) (stopOf e) (h .buf) (h .pen .at) (h .pen .last) (h .pen .opened) (h .pen .limit) u (kept-count (c .opened) (ink g bs) (kept-ink bs g (inl alive))) f n
+      let h = ink g bs in
+      caught-stop-at (h .pen .stop) (stopOf e) (h .buf) (h .pen .at) (h .pen .last) (h .pen .limit) u (kept-ink bs g (inl alive)) f n
 
   missed : (bs : List ℕ) (i : ℕ) (ns : List Note) (c : Count) → goOn (pageAfter g (tr bs (missing i) ns c) .pen .stop) u (pageAfter g (tr bs (missing i) ns c)) ≡ pageAfter g (prefix bs ns c (u i))
   unfolding pageAfter stopOf Kept
   missed bs i ns c =
-      let h = ticks (ink g bs) (c .opened) in
-      caught-missing-at (h .pen .stop) (h .buf) (h .pen .at) (h .pen .last) (h .pen .opened) (h .pen .limit) i u (kept-count (c .opened) (ink g bs) (kept-ink bs g (inl alive))) ∙ sym (run-prefix g bs ns c (u i))
+      let h = ink g bs in
+      caught-missing-at (h .pen .stop) (h .buf) (h .pen .at) (h .pen .last) (h .pen .limit) i u (kept-ink bs g (inl alive)) ∙ sym (run-prefix g bs ns c (u i))
 
   run-caught : (s : Trace Refusal) → goOn (pageAfter g s .pen .stop) u (pageAfter g s) ≡ pageAfter g (caught s u)
   unfolding stopOf Kept
-  run-caught (tr bs done ns c) = caught-kept-at _ (pageAfter g (tr bs done ns c)) u refl (rw (run-done g bs ns c) (kept-count (c .opened) (ink g bs) (kept-ink bs g (inl alive))))
+  run-caught (tr bs done ns c) = caught-kept-at _ (pageAfter g (tr bs done ns c)) u refl (rw (run-done g bs ns c) (kept-ink bs g (inl alive)))
   run-caught (tr bs (missing i) ns c) = missed bs i ns c
   run-caught (tr bs (refused f) ns c) = caught-ended bs (refused f) ns c f refl
   run-caught (tr bs (halted x) ns c) = caught-ended bs (halted x) ns c (halted-as x .0) (halted-as x .1)
@@ -449,35 +422,24 @@ pub prefix-none : (t : Trace Refusal) → prefix [] [] (count 0 0) t ≡ t
 prefix-none (tr bs e ns c) = simp zero-add
 
 -- a writing keeps the buffer's length
-put-length-at : (x : Stop) (b : List ℕ) (at l o lim v : ℕ) → length (put (page b (record { at = at; last = l; opened = o; limit = lim; stop = x })) v .buf) ≡ length b
+put-length-at : (x : Stop) (b : List ℕ) (at l lim v : ℕ) → length (put (under b (record { at = at; last = l; limit = lim; stop = x })) v .buf) ≡ length b
 unfolding put
-put-length-at No b at l o lim v = by (ltb at lim)
+put-length-at No b at l lim v = by (ltb at lim)
   where
-    by : (c : Bool) → length (pick c (page (set b at v) (record { at = at + 1; last = v; opened = o; limit = lim; stop = No })) (page b (gone lim NoRoom)) .buf) ≡ length b
+    by : (c : Bool) → length (pick c (under (set b at v) (record { at = at + 1; last = v; limit = lim; stop = No })) (under b (ended lim NoRoom)) .buf) ≡ length b
     by true = simp length-set
     by false = refl
-put-length-at (Missing i) b at l o lim v = refl
-put-length-at (Refused f) b at l o lim v = refl
+put-length-at (Missing i) b at l lim v = refl
+put-length-at (Refused f) b at l lim v = refl
 
 ink-length : (bs : List ℕ) (g : Page) → length (ink g bs .buf) ≡ length (g .buf)
 unfolding ink
 ink-length [] g = refl
-ink-length (b ∷ bs) g = ink-length bs (put g b) ∙ put-length-at (g .pen .stop) (g .buf) (g .pen .at) (g .pen .last) (g .pen .opened) (g .pen .limit) b
-
-tick-buf-at : (x : Stop) (b : List ℕ) (at l o lim : ℕ) → tick (page b (record { at = at; last = l; opened = o; limit = lim; stop = x })) .buf ≡ b
-unfolding tick
-tick-buf-at No b at l o lim = refl
-tick-buf-at (Missing i) b at l o lim = refl
-tick-buf-at (Refused f) b at l o lim = refl
-
-count-buf : (c : ℕ) (g : Page) → ticks g c .buf ≡ g .buf
-unfolding ticks
-count-buf zero g = refl
-count-buf (suc c) g = count-buf c (tick g) ∙ tick-buf-at (g .pen .stop) (g .buf) (g .pen .at) (g .pen .last) (g .pen .opened) (g .pen .limit)
+ink-length (b ∷ bs) g = ink-length bs (put g b) ∙ put-length-at (g .pen .stop) (g .buf) (g .pen .at) (g .pen .last) (g .pen .limit) b
 
 run-length : (g : Page) (t : Trace Refusal) → length (pageAfter g t .buf) ≡ length (g .buf)
 unfolding pageAfter
-run-length g (tr bs e ns c) = ap length (count-buf (c .opened) (ink g bs)) ∙ ink-length bs g
+run-length g (tr bs e ns c) = ink-length bs g
 
 pub wrote-length : {g h : Page} {t : Trace Refusal} → Wrote g t h → length (h .buf) ≡ length (g .buf)
 wrote-length {g} {h} {t} w = ap (λ (x : Page). length (x .buf)) (w .is) ∙ run-length g t
@@ -486,7 +448,7 @@ pub wrote-byte : {g h : Page} {b : ℕ} → h ≡ put g b → Wrote g (writing (
 wrote-byte {g} {h} {b} e = record { is = e ∙ sym (run-say g (b ∷ []) ∙ ink-one g b) }
 
 -- what catches, by cases
-pub caught-goes : {b : List ℕ} {p q : Pen} {u : ℕ → Trace Refusal} {i : ℕ} {k : Page} → p .stop ≡ Missing i → q ≡ resumed p → Wrote (page b q) (u i) k → Caught (page b p) u k
+pub caught-goes : {b : List ℕ} {p q : Pen} {u : ℕ → Trace Refusal} {i : ℕ} {k : Page} → held p .stop ≡ Missing i → q ≡ resumed p → Wrote (page b q) (u i) k → Caught (page b p) u k
 caught-goes {b} {p} {q} {u} {i} {k} e f w = record { is = rw (e, ← f) (w .is) }
 
 -- the same laws over the shut traces
@@ -509,32 +471,23 @@ unfolding marking
 wrote-marking {g} a e f = wrote-caught (alive (g .pen .stop) a) e f
 
 -- A whole trace, from the start of a buffer.
-unfoldable pub countAfter : ℕ → ℕ → ℕ
-countAfter o zero = o
-countAfter o (suc c) = countAfter (more o) c
-
-count-is : (c : ℕ) (b : List ℕ) (at l o lim : ℕ) → ticks (page b (record { at = at; last = l; opened = o; limit = lim; stop = No })) c ≡ page b (record { at = at; last = l; opened = countAfter o c; limit = lim; stop = No })
-unfolding ticks tick countAfter
-count-is zero b at l o lim = refl
-count-is (suc c) b at l o lim = count-is c b at l (more o) lim
-
-ink-fits : (bs buf : List ℕ) (at l o lim : ℕ) → at + length bs ≤ lim
-    → ink (page buf (record { at = at; last = l; opened = o; limit = lim; stop = No })) bs ≡ page (sets buf at bs) (record { at = at + length bs; last = last l bs; opened = o; limit = lim; stop = No })
+ink-fits : (bs buf : List ℕ) (at l lim : ℕ) → at + length bs ≤ lim
+    → ink (under buf (record { at = at; last = l; limit = lim; stop = No })) bs ≡ under (sets buf at bs) (record { at = at + length bs; last = last l bs; limit = lim; stop = No })
 unfolding ink last
-ink-fits [] buf at l o lim h = rw add-zero
-ink-fits (b ∷ bs) buf at l o lim h =
+ink-fits [] buf at l lim h = rw add-zero
+ink-fits (b ∷ bs) buf at l lim h =
     let k : (at + 1) + length bs ≡ at + (suc (length bs)) = omega arith in
-    rw (put-fits buf (record { at = at; last = l; opened = o; limit = lim; stop = No }) b refl (omega arith), ink-fits bs (set buf at b) (at + 1) b o lim (omega arith), k, add-one)
+    rw (put-fits buf (record { at = at; last = l; limit = lim; stop = No }) b refl (omega arith), ink-fits bs (set buf at b) (at + 1) b lim (omega arith), k, add-one)
 
-ink-over : (bs buf : List ℕ) (at l o lim : ℕ) → at ≤ lim → lim < at + length bs → ink (page buf (record { at = at; last = l; opened = o; limit = lim; stop = No })) bs .pen .stop ≡ Refused NoRoom
+ink-over : (bs buf : List ℕ) (at l lim : ℕ) → at ≤ lim → lim < at + length bs → ink (under buf (record { at = at; last = l; limit = lim; stop = No })) bs .pen .stop ≡ Refused NoRoom
 unfolding ink
-ink-over [] buf at l o lim h k = absurd (omega arith)
-ink-over (b ∷ bs) buf at l o lim h k = by (decLt at lim) (λ d. ink-over bs (set buf at b) (at + 1) b o lim (omega arith) (omega arith))
+ink-over [] buf at l lim h k = absurd (omega arith)
+ink-over (b ∷ bs) buf at l lim h k = by (decLt at lim) (λ d. ink-over bs (set buf at b) (at + 1) b lim (omega arith) (omega arith))
   where
-    by : Dec (at < lim) → (at < lim → ink (page (set buf at b) (record { at = at + 1; last = b; opened = o; limit = lim; stop = No })) bs .pen .stop ≡ Refused NoRoom)
-        → ink (put (page buf (record { at = at; last = l; opened = o; limit = lim; stop = No })) b) bs .pen .stop ≡ Refused NoRoom
-    by (yes d) rest = rw (put-fits buf (record { at = at; last = l; opened = o; limit = lim; stop = No }) b refl d) (rest d)
-    by (no d) rest = rw (put-full buf (record { at = at; last = l; opened = o; limit = lim; stop = No }) b refl (omega arith), ink-halted bs (page buf (gone lim NoRoom)) refl)
+    by : Dec (at < lim) → (at < lim → ink (under (set buf at b) (record { at = at + 1; last = b; limit = lim; stop = No })) bs .pen .stop ≡ Refused NoRoom)
+        → ink (put (under buf (record { at = at; last = l; limit = lim; stop = No })) b) bs .pen .stop ≡ Refused NoRoom
+    by (yes d) rest = rw (put-fits buf (record { at = at; last = l; limit = lim; stop = No }) b refl d) (rest d)
+    by (no d) rest = rw (put-full buf (record { at = at; last = l; limit = lim; stop = No }) b refl (omega arith), ink-halted bs (under buf (ended lim NoRoom)) refl)
 
 -- A run of bytes that is copied at once: a turn of the copying, and what is copied when all of it is.
 pub copy-turn : (d s : List ℕ) (i : ℕ) → length d ≡ length s → i < length s → take i d ≡ take i s → take (i + 1) (set d i (getD s i 0)) ≡ take (i + 1) s
@@ -545,14 +498,14 @@ copy-all d s i l h e = sym (take-all i d (omega arith)) ∙ e ∙ take-all i s h
 
 -- What it says that a run of n bytes has room.
 pub record Room (p : Pen) (len n : ℕ) : Type 0 where
-  pub goes : p .stop ≡ No
+  pub goes : held p .stop ≡ No
   pub fits : p .at + n ≤ p .limit
   pub within : p .limit ≤ len
 
-pub room-tells : (p : Pen) (len n r : ℕ) → r ≡ unlessStopped (p .stop) (pick (leb (p .limit) len) (p .limit - p .at) 0) 0 → 0 < n → n ≤ r → Room p len n
-room-tells p len n r e z h = by (p .stop) refl (leb (p .limit) len) refl (rw e at h)
+pub room-tells : (p : Pen) (len n r : ℕ) → r ≡ unlessStopped (held p .stop) (pick (leb (p .limit) len) (p .limit - p .at) 0) 0 → 0 < n → n ≤ r → Room p len n
+room-tells p len n r e z h = by (held p .stop) refl (leb (p .limit) len) refl (rw e at h)
   where
-    by : (x : Stop) → p .stop ≡ x → (b : Bool) → leb (p .limit) len ≡ b → n ≤ unlessStopped x (pick b (p .limit - p .at) 0) 0 → Room p len n
+    by : (x : Stop) → held p .stop ≡ x → (b : Bool) → leb (p .limit) len ≡ b → n ≤ unlessStopped x (pick b (p .limit - p .at) 0) 0 → Room p len n
     by No s true l k = record { goes = s; fits = omega arith; within = leb-true _ _ l }
     by No s false l k = absurd (omega arith)
     by (Missing i) s b l k = absurd (omega arith)
@@ -569,58 +522,57 @@ last-at b (c ∷ d ∷ ds) (suc i) e = last-at c (d ∷ ds) i (omega arith)
 -- A run that was copied to the pen's place is its text.
 module _ (buf ys s : List ℕ) (p : Pen) (k : ℕ) where
   pub wrote-run : Room p (length buf) (length s) → 0 < length s → k ≡ length s → ys ≡ s
-      → Wrote (page buf p) (writing s) (page (take (p .at) buf ++ (ys ++ drop k (drop (p .at) buf))) (record { at = p .at + length s; last = getD s (length s - 1) 0; opened = p .opened; limit = p .limit; stop = No }))
-  wrote-run m z e f = record { is = ap (λ (b : List ℕ). page b q) whole ∙ sym inked }
+      → Wrote (page buf p) (writing s) (page (take (p .at) buf ++ (ys ++ drop k (drop (p .at) buf))) (record { at = p .at + length s; last = getD s (length s - 1) 0; limit = p .limit; stop = 0; detail = 0 }))
+  wrote-run m z e f = record { is = ap (λ (b : List ℕ). under b q) whole ∙ sym inked }
     where
-      q : Pen
-      q = record { at = p .at + length s; last = getD s (length s - 1) 0; opened = p .opened; limit = p .limit; stop = No }
+      q : Held
+      q = record { at = p .at + length s; last = getD s (length s - 1) 0; limit = p .limit; stop = No }
 
       whole : take (p .at) buf ++ (ys ++ drop k (drop (p .at) buf)) ≡ sets buf (p .at) s
       whole = rw (e, f, drop-drop, ← append-assoc) (sym (sets-eq s buf (p .at) (omega (arith, m .fits, m .within))))
 
-      inked : pageAfter (page buf p) (writing s) ≡ page (sets buf (p .at) s) q
-      inked = run-say (page buf p) s ∙ ap (λ x. ink (page buf (record { at = p .at; last = p .last; opened = p .opened; limit = p .limit; stop = x })) s) (m .goes) ∙ ink-fits s buf (p .at) (p .last) (p .opened) (p .limit) (m .fits) ∙ rw (last-at (p .last) s (length s - 1) (omega arith))
+      inked : pageAfter (page buf p) (writing s) ≡ under (sets buf (p .at) s) q
+      inked = run-say (page buf p) s ∙ ap (λ x. ink (under buf (record { at = p .at; last = p .last; limit = p .limit; stop = x })) s) (m .goes) ∙ ink-fits s buf (p .at) (p .last) (p .limit) (m .fits) ∙ rw (last-at (p .last) s (length s - 1) (omega arith))
 
 -- what a text that fits leaves
-pub record Ran (buf : List ℕ) (limit : ℕ) (bs : List ℕ) (c : ℕ) (b : List ℕ) (q : Pen) : Type 0 where
+pub record Ran (buf : List ℕ) (limit : ℕ) (bs : List ℕ) (b : List ℕ) (q : Held) : Type 0 where
   pub at : q .at ≡ length bs
   pub buffer : b ≡ sets buf 0 bs
-  pub opened : q .opened ≡ countAfter 0 c
   pub room : length bs ≤ limit
 
-end-stop : (p : Pen) (x : Stop) → p .stop ≡ No → endAs p x .stop ≡ x
+end-stop : (p : Held) (x : Stop) → p .stop ≡ No → endAs p x .stop ≡ x
 end-stop p No e = e
 end-stop p (Missing i) e = refl
 end-stop p (Refused f) e = refl
 
-module _ (buf : List ℕ) (limit : ℕ) (bs : List ℕ) (e : End Refusal) (ns : List Note) (c : Count) (b : List ℕ) (q : Pen) where
-  ran : length bs ≤ limit → pageAfter (page buf (record { at = 0; last = 0; opened = 0; limit = limit; stop = No })) (tr bs e ns c)
-      ≡ page (sets buf 0 bs) (endAs (record { at = 0 + length bs; last = last 0 bs; opened = countAfter 0 (c .opened); limit = limit; stop = No }) (stopOf e))
+module _ (buf : List ℕ) (limit : ℕ) (bs : List ℕ) (e : End Refusal) (ns : List Note) (c : Count) (b : List ℕ) (q : Held) where
+  ran : length bs ≤ limit → pageAfter (under buf (record { at = 0; last = 0; limit = limit; stop = No })) (tr bs e ns c)
+      ≡ under (sets buf 0 bs) (endAs (record { at = 0 + length bs; last = last 0 bs; limit = limit; stop = No }) (stopOf e))
   unfolding pageAfter
-  ran h = rw (ink-fits bs buf 0 0 0 limit (omega arith), count-is (c .opened) (sets buf 0 bs) (0 + length bs) (last 0 bs) 0 limit) refl
+  ran h = rw (ink-fits bs buf 0 0 limit (omega arith)) refl
 
-  pub ran-fits : length bs ≤ limit → Wrote (page buf (record { at = 0; last = 0; opened = 0; limit = limit; stop = No })) (tr bs e ns c) (page b q)
-      → (q .stop ≡ stopOf e) × (q .stop ≡ No → Ran buf limit bs (c .opened) b q)
+  pub ran-fits : length bs ≤ limit → Wrote (under buf (record { at = 0; last = 0; limit = limit; stop = No })) (tr bs e ns c) (under b q)
+      → (q .stop ≡ stopOf e) × (q .stop ≡ No → Ran buf limit bs b q)
   ran-fits h w = (stops, λ n. whole (stopOf e) refl (sym stops ∙ n))
     where
-      p : Pen
-      p = record { at = 0 + length bs; last = last 0 bs; opened = countAfter 0 (c .opened); limit = limit; stop = No }
+      p : Held
+      p = record { at = 0 + length bs; last = last 0 bs; limit = limit; stop = No }
 
-      is : page b q ≡ page (sets buf 0 bs) (endAs p (stopOf e))
+      is : under b q ≡ under (sets buf 0 bs) (endAs p (stopOf e))
       is = w .is ∙ ran h
 
       stops : q .stop ≡ stopOf e
       stops = ap (λ (g : Page). g .pen .stop) is ∙ end-stop p (stopOf e) refl
 
-      whole : (x : Stop) → stopOf e ≡ x → x ≡ No → Ran buf limit bs (c .opened) b q
+      whole : (x : Stop) → stopOf e ≡ x → x ≡ No → Ran buf limit bs b q
       whole x y z =
-          let k : page b q ≡ page (sets buf 0 bs) p = is ∙ ap (λ x. page (sets buf 0 bs) (endAs p x)) (y ∙ z) in
-          record { at = ap (λ (g : Page). g .pen .at) k ∙ zero-add (length bs); buffer = ap (λ (g : Page). g .buf) k; opened = ap (λ (g : Page). g .pen .opened) k; room = h }
+          let k : under b q ≡ under (sets buf 0 bs) p = is ∙ ap (λ x. under (sets buf 0 bs) (endAs p x)) (y ∙ z) in
+          record { at = ap (λ (g : Page). g .pen .at) k ∙ zero-add (length bs); buffer = ap (λ (g : Page). g .buf) k; room = h }
 
-  pub ran-over : limit < length bs → Wrote (page buf (record { at = 0; last = 0; opened = 0; limit = limit; stop = No })) (tr bs e ns c) (page b q) → q .stop ≡ Refused NoRoom
+  pub ran-over : limit < length bs → Wrote (under buf (record { at = 0; last = 0; limit = limit; stop = No })) (tr bs e ns c) (under b q) → q .stop ≡ Refused NoRoom
   unfolding pageAfter
   ran-over h w =
-      let g = page buf (record { at = 0; last = 0; opened = 0; limit = limit; stop = No }) in
-      let s : ink g bs .pen .stop ≡ Refused NoRoom = ink-over bs buf 0 0 0 limit (omega arith) (omega arith) in
+      let g = under buf (record { at = 0; last = 0; limit = limit; stop = No }) in
+      let s : ink g bs .pen .stop ≡ Refused NoRoom = ink-over bs buf 0 0 limit (omega arith) (omega arith) in
       let k : Halted (ink g bs) = rw s refl in
-      ap (λ (g : Page). g .pen .stop) (w .is) ∙ ap (λ (g : Page). finish g (stopOf e) .pen .stop) (count-halted (c .opened) (ink g bs) k) ∙ ap (λ (g : Page). g .pen .stop) (finish-halted (ink g bs) (stopOf e) k) ∙ s
+      ap (λ (g : Page). g .pen .stop) (w .is) ∙ ap (λ (g : Page). g .pen .stop) (finish-halted (ink g bs) (stopOf e) k) ∙ s

@@ -1,12 +1,12 @@
 -- A page is a lent buffer with the pen over it, and this is what a trace makes of a page.
-use Prim.Native.Nat.{ℕ, zero, suc, _+_}
+use Prim.Native.Nat.{ℕ, _+_}
 use mathlib.Core.Path.{_≡_}
 use mathlib.Core.List.{List, [], _∷_}
 use mathlib.Core.Bool.{Bool, true, false}
 use lib.ListN.{set}
 use lib.Dec.{ltb, leb, eqb}
 use Rattle.wire.specs.Field.{pick}
-use Rattle.streams.specs.Refusal.{numberOf, detailOf}
+use Rattle.streams.specs.Refusal.{numberOf, detailOf, refusalOf}
 use Rattle.streams.specs.declared.refusal.Refusal.{Refusal}
 use Rattle.streams.specs.declared.refusal.Refusal.the-variants.{CircularTypeDefinition, TooManyOpen, ChainTooLong, NoRoom}
 use Rattle.interpreter.specs.Trace.{Note, again, deep, long, End, done, missing, refused, halted, unfinished, Count, count, Trace, tr, then, caught}
@@ -14,23 +14,43 @@ use Rattle.pen.specs.declared.Pen.{Pen}
 use Rattle.pen.specs.declared.Stop.{Stop}
 use Rattle.pen.specs.declared.Stop.the-variants.{No, Missing, Refused}
 
+-- Why a pen has stopped, by its two numbers: 0, it has not; 17, which no refusal has, an index is missing; any other is a refusal's.
+abbrev pub stopIn : ℕ → ℕ → Stop
+stopIn n d = pick (eqb n 0) No (pick (eqb n 17) (Missing d) (Refused (refusalOf n d)))
+
+-- a pen, read
+pub record Held : Type 0 where
+  pub at : ℕ
+  pub last : ℕ
+  pub limit : ℕ
+  pub stop : Stop
+
+abbrev pub held : Pen → Held
+held p = record { at = p .at; last = p .last; limit = p .limit; stop = stopIn (p .stop) (p .detail) }
+
 pub record Page : Type 0 where
   pub buf : List ℕ
-  pub pen : Pen
+  pub pen : Held
+
+abbrev pub under : List ℕ → Held → Page
+under b p = record { buf = b; pen = p }
 
 abbrev pub page : List ℕ → Pen → Page
-page b p = record { buf = b; pen = p }
+page b p = under b (held p)
 
 -- a pen that was refused keeps nothing but its limit
+abbrev pub ended : ℕ → Refusal → Held
+ended limit f = record { at = 0; last = 0; limit = limit; stop = Refused f }
+
 abbrev pub gone : ℕ → Refusal → Pen
-gone limit f = record { at = 0; last = 0; opened = 0; limit = limit; stop = Refused f }
+gone limit f = record { at = 0; last = 0; limit = limit; stop = numberOf f; detail = detailOf f }
 
 -- one byte at a place: where the limit is reached, refusal 15. (Past the end of the buffer `set` changes nothing.)
-abbrev pub putAt : List ℕ → Pen → ℕ → Page
+abbrev pub putAt : List ℕ → Held → ℕ → Page
 putAt buf p b =
     pick (ltb (p .at) (p .limit))
-    (page (set buf (p .at) b) (record { at = p .at + 1; last = b; opened = p .opened; limit = p .limit; stop = No }))
-    (page buf (gone (p .limit) NoRoom))
+    (under (set buf (p .at) b) (record { at = p .at + 1; last = b; limit = p .limit; stop = No }))
+    (under buf (ended (p .limit) NoRoom))
 
 abbrev pub unlessStopped : {A : Type 0} → Stop → A → A → A
 unlessStopped No g h = g
@@ -46,24 +66,6 @@ unfoldable pub ink : Page → List ℕ → Page
 ink g [] = g
 ink g (b ∷ bs) = ink (put g b) bs
 
--- one index more was opened; a count of 2^64 - 1 stays
-abbrev pub more : ℕ → ℕ
-more n = pick (ltb n 18446744073709551615) (n + 1) n
-
-abbrev pub ticked : Pen → Pen
-ticked p = record { at = p .at; last = p .last; opened = more (p .opened); limit = p .limit; stop = No }
-
--- a pen that has not stopped counts it
-unfoldable pub counted : Pen → Pen
-counted p = unlessStopped (p .stop) (ticked p) p
-
-unfoldable pub tick : Page → Page
-tick g = unlessStopped (g .pen .stop) (page (g .buf) (ticked (g .pen))) g
-
-unfoldable pub ticks : Page → ℕ → Page
-ticks g zero = g
-ticks g (suc c) = ticks (tick g) c
-
 -- How a pen stops at each end: 12, 13 and 14 for what the walk was halted at.
 unfoldable pub stopOf : End Refusal → Stop
 stopOf done = No
@@ -74,17 +76,17 @@ stopOf (halted (deep i)) = Refused (TooManyOpen i)
 stopOf (halted (long i)) = Refused (ChainTooLong i)
 stopOf unfinished = Refused NoRoom
 
-abbrev pub endAs : Pen → Stop → Pen
+abbrev pub endAs : Held → Stop → Held
 endAs p No = p
-endAs p (Missing i) = record { at = p .at; last = p .last; opened = p .opened; limit = p .limit; stop = Missing i }
-endAs p (Refused f) = gone (p .limit) f
+endAs p (Missing i) = record { at = p .at; last = p .last; limit = p .limit; stop = Missing i }
+endAs p (Refused f) = ended (p .limit) f
 
 -- a pen that has not stopped ends as e says
 abbrev pub finish : Page → Stop → Page
-finish g e = page (g .buf) (unlessStopped (g .pen .stop) (endAs (g .pen) e) (g .pen))
+finish g e = under (g .buf) (unlessStopped (g .pen .stop) (endAs (g .pen) e) (g .pen))
 
 unfoldable pub pageAfter : Page → Trace Refusal → Page
-pageAfter g (tr bs e ns c) = finish (ticks (ink g bs) (c .opened)) (stopOf e)
+pageAfter g (tr bs e ns c) = finish (ink g bs) (stopOf e)
 
 -- the page h is what the trace t makes of the page g
 pub record Wrote (g : Page) (t : Trace Refusal) (h : Page) : Type 0 where
@@ -98,16 +100,17 @@ unfoldable pub step : Trace Refusal
 step = tr [] done [] (count 0 1)
 
 -- the last byte written since start; 0 where there is none
-unfoldable pub lastSince : Pen → ℕ → ℕ
+unfoldable pub lastSince : Held → ℕ → ℕ
 lastSince p start = pick (leb (p .at) start) 0 (p .last)
 
+-- a pen that stopped goes on
 abbrev pub resumed : Pen → Pen
-resumed p = record { at = p .at; last = p .last; opened = p .opened; limit = p .limit; stop = No }
+resumed p = record { at = p .at; last = p .last; limit = p .limit; stop = 0; detail = 0 }
 
 -- where an index was missing, u goes on
 abbrev pub goOn : Stop → (ℕ → Trace Refusal) → Page → Page
 goOn No u g = g
-goOn (Missing i) u g = pageAfter (page (g .buf) (resumed (g .pen))) (u i)
+goOn (Missing i) u g = pageAfter (under (g .buf) (record { at = g .pen .at; last = g .pen .last; limit = g .pen .limit; stop = No })) (u i)
 goOn (Refused f) u g = g
 
 pub record Caught (g : Page) (u : ℕ → Trace Refusal) (h : Page) : Type 0 where
@@ -145,11 +148,11 @@ bytesOf (tr bs e ns c) = bs
 
 -- A pen that has not stopped is refused.
 unfoldable pub refusedPen : Pen → Refusal → Pen
-refusedPen p f = unlessStopped (p .stop) (gone (p .limit) f) p
+refusedPen p f = unlessStopped (held p .stop) (gone (p .limit) f) p
 
 -- A pen that has not stopped ends its text at a missing index.
 unfoldable pub missedPen : Pen → ℕ → Pen
-missedPen p i = unlessStopped (p .stop) (endAs p (Missing i)) p
+missedPen p i = unlessStopped (held p .stop) (record { at = p .at; last = p .last; limit = p .limit; stop = 17; detail = i }) p
 
 -- What could not be read inside a type: a missing record ends the text, anything else is refused. The pen, and the trace.
 unfoldable pub unreadPen : Pen → Refusal → Pen

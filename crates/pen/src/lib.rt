@@ -1,4 +1,4 @@
-// The pen: where the next byte goes, what was written last, how many indexes were opened, and whether writing has stopped. A stopped pen writes nothing.
+// The pen: where the next byte goes, what was written last, and whether writing has stopped. A stopped pen writes nothing.
 // Where the buffer is shorter than the pen's limit the bytes past its end are counted only.
 ghost use mathlib.Core.Path.{_≡_};
 ghost use mathlib.Core.List.{[]};
@@ -7,9 +7,10 @@ ghost use lib.Dec.{leb};
 ghost use lib.ListN.{length, set};
 ghost use Rattle.wire.specs.Field.{pick};
 ghost use Rattle.interpreter.specs.Trace.{tr, refused, halted, long, count};
-ghost use Rattle.pen.specs.Page.{page, put, unlessStopped, Wrote, lastSince, resumed, refusedPen, missedPen, unreadPen, counted, writing, idle, unreadTrace};
+ghost use Rattle.pen.specs.Page.{held, page, put, unlessStopped, Wrote, lastSince, resumed, refusedPen, missedPen, unreadPen, writing, idle, unreadTrace};
 use streams::refusal::Refusal;
 
+// How a pen has stopped.
 pub enum Stop {
     No,
     Missing(u32),
@@ -20,9 +21,10 @@ pub struct Pen {
     pub at: usize,
     // A byte in the width of its neighbours: a struct without gaps is copied by whole words.
     pub last: u64,
-    pub opened: u64,
     pub limit: usize,
-    pub stop: Stop,
+    // Whether it has stopped, as two numbers for the same reason: 0; the number of a refusal; or 17, where an index is missing. Then the detail.
+    pub stop: u32,
+    pub detail: u32,
 }
 
 fn store(out: &mut [u8], at: usize, b: u8)
@@ -33,6 +35,24 @@ fn store(out: &mut [u8], at: usize, b: u8)
     }
 }
 
+// How a pen has stopped, by its two numbers.
+pub fn stop_of(p: Pen) -> Stop
+    ensures { λ r. ⌜ r ≡ held p .stop ⌝ }
+{
+    match p.stop {
+        0 => Stop::No,
+        17 => Stop::Missing(p.detail),
+        _ => Stop::Refused(Refusal::of(p.stop, p.detail)),
+    }
+}
+
+// Whether the pen has stopped.
+pub fn is_idle(p: Pen) -> bool
+    ensures { λ r. ⌜ r ≡ idle (held p .stop) ⌝ }
+{
+    p.stop != 0
+}
+
 // A refused pen keeps nothing but its limit.
 fn gone(limit: usize, f: Refusal) -> Pen
     ensures { λ r. ⌜ r ≡ Rattle.pen.specs.Page.gone limit f ⌝ }
@@ -40,9 +60,9 @@ fn gone(limit: usize, f: Refusal) -> Pen
     Pen {
         at: 0,
         last: 0,
-        opened: 0,
         limit,
-        stop: Stop::Refused(f),
+        stop: f.number(),
+        detail: f.detail(),
     }
 }
 
@@ -56,27 +76,22 @@ fn wide(b: u8) -> u64
 pub fn byte(out: &mut [u8], p: Pen, b: u8) -> Pen
     ensures { λ r. ⌜ page (now (out .exit)) r ≡ put (page (now (out .entry)) p) b ⌝ }
 {
-    let stop = p.stop;
-    match stop {
-        Stop::No => {
-            let at = p.at;
-            let limit = p.limit;
-            if at < limit {
-                store(out, at, b);
-                Pen {
-                    at: at + 1,
-                    last: wide(b),
-                    opened: p.opened,
-                    limit,
-                    stop: Stop::No,
-                }
-            } else {
-                gone(limit, Refusal::NoRoom)
-            }
-        }
-        Stop::Missing(_) => p,
-        Stop::Refused(_) => p,
+    if p.stop != 0 {
+        return p;
     }
+    let at = p.at;
+    let limit = p.limit;
+    if at < limit {
+        store(out, at, b);
+        return Pen {
+            at: at + 1,
+            last: wide(b),
+            limit,
+            stop: 0,
+            detail: 0,
+        };
+    }
+    gone(limit, Refusal::NoRoom)
 }
 
 // The bytes of s, one by one.
@@ -106,21 +121,17 @@ fn copy(to: &mut [u8], s: &[u8])
 
 // How many bytes there is room for at once: none where the pen has stopped or its limit is past the buffer.
 fn room(p: Pen, len: usize) -> usize
-    ensures { λ r. ⌜ r ≡ unlessStopped (p .stop) (pick (leb (p .limit) len) (p .limit - p .at) 0) 0 ⌝ }
+    ensures { λ r. ⌜ r ≡ unlessStopped (held p .stop) (pick (leb (p .limit) len) (p .limit - p .at) 0) 0 ⌝ }
 {
-    let stop = p.stop;
-    match stop {
-        Stop::No => {
-            let at = p.at;
-            let limit = p.limit;
-            if len < limit {
-                return 0;
-            }
-            if limit <= at { 0 } else { limit - at }
-        }
-        Stop::Missing(_) => 0,
-        Stop::Refused(_) => 0,
+    if p.stop != 0 {
+        return 0;
     }
+    let at = p.at;
+    let limit = p.limit;
+    if len < limit {
+        return 0;
+    }
+    if limit <= at { 0 } else { limit - at }
 }
 
 // The bytes of s, at once where there is room for all of them.
@@ -136,9 +147,9 @@ pub fn text(out: &mut [u8], p: Pen, s: &[u8]) -> Pen
             return Pen {
                 at: end,
                 last: wide(s[n - 1]),
-                opened: p.opened,
                 limit: p.limit,
-                stop: Stop::No,
+                stop: 0,
+                detail: 0,
             };
         }
     }
@@ -149,12 +160,10 @@ pub fn text(out: &mut [u8], p: Pen, s: &[u8]) -> Pen
 pub fn stopped(p: Pen, f: Refusal) -> Pen
     ensures { λ r. ⌜ r ≡ refusedPen p f ⌝ }
 {
-    let stop = p.stop;
-    match stop {
-        Stop::No => gone(p.limit, f),
-        Stop::Missing(_) => p,
-        Stop::Refused(_) => p,
+    if p.stop != 0 {
+        return p;
     }
+    gone(p.limit, f)
 }
 
 // A refusal of the rules.
@@ -175,17 +184,15 @@ pub fn too_long(out: &[u8], p: Pen, index: u32) -> Pen
 fn missed(p: Pen, index: u32) -> Pen
     ensures { λ r. ⌜ r ≡ missedPen p index ⌝ }
 {
-    let stop = p.stop;
-    match stop {
-        Stop::No => Pen {
-            at: p.at,
-            last: p.last,
-            opened: p.opened,
-            limit: p.limit,
-            stop: Stop::Missing(index),
-        },
-        Stop::Missing(_) => p,
-        Stop::Refused(_) => p,
+    if p.stop != 0 {
+        return p;
+    }
+    Pen {
+        at: p.at,
+        last: p.last,
+        limit: p.limit,
+        stop: 17,
+        detail: index,
     }
 }
 
@@ -206,31 +213,6 @@ pub fn unread(out: &[u8], p: Pen, f: Refusal) -> Pen
     unreadable(p, f)
 }
 
-// One index more was opened.
-pub fn tick(p: Pen) -> Pen
-    ensures { λ r. ⌜ r ≡ counted p ⌝ }
-{
-    let stop = p.stop;
-    match stop {
-        Stop::No => {
-            let n = p.opened;
-            if n < 18446744073709551615 {
-                Pen {
-                    at: p.at,
-                    last: p.last,
-                    opened: n + 1,
-                    limit: p.limit,
-                    stop: Stop::No,
-                }
-            } else {
-                p
-            }
-        }
-        Stop::Missing(_) => p,
-        Stop::Refused(_) => p,
-    }
-}
-
 // The last byte written since a place; 0 where there is none.
 pub fn last_since(p: Pen, start: usize) -> u64
     ensures { λ r. ⌜ r ≡ lastSince p start ⌝ }
@@ -249,20 +231,8 @@ pub fn resume(p: Pen) -> Pen
     Pen {
         at: p.at,
         last: p.last,
-        opened: p.opened,
         limit: p.limit,
-        stop: Stop::No,
-    }
-}
-
-// Whether the pen has stopped.
-pub fn is_idle(p: Pen) -> bool
-    ensures { λ r. ⌜ r ≡ idle (p .stop) ⌝ }
-{
-    let stop = p.stop;
-    match stop {
-        Stop::No => false,
-        Stop::Missing(_) => true,
-        Stop::Refused(_) => true,
+        stop: 0,
+        detail: 0,
     }
 }

@@ -1,5 +1,7 @@
 -- The refusals (document 01, "What a call answers"): the number and the one detail of each.
 use Prim.Native.Nat.{ℕ}
+use lib.Dec.{eqb}
+use Rattle.wire.specs.Field.{pick}
 use Rattle.streams.specs.declared.refusal.StreamKind.{StreamKind}
 use Rattle.streams.specs.declared.refusal.StreamKind.the-variants as stream
 use Rattle.streams.specs.declared.refusal.Refusal.{Refusal}
@@ -64,3 +66,26 @@ detailOf (TooManyOpen index) = index
 detailOf (ChainTooLong index) = index
 detailOf NoRoom = 0
 detailOf (UnknownCommand command) = command
+
+-- The refusal of a number with a detail. (A number of none counts as 16, so that each number has one.)
+abbrev pub streamOfDetail : ℕ → StreamKind
+streamOfDetail d = pick (eqb d 0) stream.Types stream.Ids
+
+unfoldable pub refusalOf : ℕ → ℕ → Refusal
+refusalOf n d =
+    pick (eqb n 1) (UnknownFlags d)
+    (pick (eqb n 2) (PointerSize d)
+    (pick (eqb n 3) (Header (streamOfDetail d))
+    (pick (eqb n 4) (Tiling (streamOfDetail d))
+    (pick (eqb n 5) (Malformed d)
+    (pick (eqb n 6) (CrossModule d)
+    (pick (eqb n 7) (UnlistedKind d)
+    (pick (eqb n 8) (Missing d)
+    (pick (eqb n 9) (ArgumentTypeNotArgumentList d)
+    (pick (eqb n 10) (FunctionIdIsNotProcedureType d)
+    (pick (eqb n 11) (MemberFunctionIdIsNotMemberFunctionType d)
+    (pick (eqb n 12) (CircularTypeDefinition d)
+    (pick (eqb n 13) (TooManyOpen d)
+    (pick (eqb n 14) (ChainTooLong d)
+    (pick (eqb n 15) NoRoom
+    (UnknownCommand d)))))))))))))))

@@ -1,6 +1,6 @@
 // Why a call is refused: the cases of document 01's table, each with its number and its one detail.
 ghost use mathlib.Core.Path.{_≡_};
-ghost use Rattle.streams.specs.Refusal.{streamDetail, numberOf, detailOf};
+ghost use Rattle.streams.specs.Refusal.{streamDetail, numberOf, detailOf, streamOfDetail, refusalOf};
 
 // Which of the two streams a refusal speaks of.
 pub enum StreamKind {
@@ -15,7 +15,7 @@ pub enum Refusal {
     Tiling(StreamKind),
     Malformed(u32),
     CrossModule(u32),
-    UnlistedKind(u16),
+    UnlistedKind(u32),
     Missing(u32),
     ArgumentTypeNotArgumentList(u32),
     FunctionIdIsNotProcedureType(u32),
@@ -24,10 +24,19 @@ pub enum Refusal {
     TooManyOpen(u32),
     ChainTooLong(u32),
     NoRoom,
-    UnknownCommand(u8),
+    UnknownCommand(u32),
 }
 
 impl StreamKind {
+    pub fn of(detail: u32) -> StreamKind
+        ensures { λ r. ⌜ r ≡ streamOfDetail detail ⌝ }
+    {
+        if detail == 0 {
+            return StreamKind::Types;
+        }
+        StreamKind::Ids
+    }
+
     pub fn detail(self) -> u32
         ensures { λ r. ⌜ r ≡ streamDetail self ⌝ }
     {
@@ -39,6 +48,30 @@ impl StreamKind {
 }
 
 impl Refusal {
+    // The refusal of a number with a detail; 16 for a number of none.
+    pub fn of(number: u32, detail: u32) -> Refusal
+        ensures { λ r. ⌜ r ≡ refusalOf number detail ⌝ }
+    {
+        match number {
+            1 => Refusal::UnknownFlags(detail),
+            2 => Refusal::PointerSize(detail),
+            3 => Refusal::Header(StreamKind::of(detail)),
+            4 => Refusal::Tiling(StreamKind::of(detail)),
+            5 => Refusal::Malformed(detail),
+            6 => Refusal::CrossModule(detail),
+            7 => Refusal::UnlistedKind(detail),
+            8 => Refusal::Missing(detail),
+            9 => Refusal::ArgumentTypeNotArgumentList(detail),
+            10 => Refusal::FunctionIdIsNotProcedureType(detail),
+            11 => Refusal::MemberFunctionIdIsNotMemberFunctionType(detail),
+            12 => Refusal::CircularTypeDefinition(detail),
+            13 => Refusal::TooManyOpen(detail),
+            14 => Refusal::ChainTooLong(detail),
+            15 => Refusal::NoRoom,
+            _ => Refusal::UnknownCommand(detail),
+        }
+    }
+
     pub fn number(self) -> u32
         ensures { λ r. ⌜ r ≡ numberOf self ⌝ }
     {
@@ -72,7 +105,7 @@ impl Refusal {
             Refusal::Tiling(stream) => stream.detail(),
             Refusal::Malformed(index) => index,
             Refusal::CrossModule(index) => index,
-            Refusal::UnlistedKind(kind) => kind as u32,
+            Refusal::UnlistedKind(kind) => kind,
             Refusal::Missing(index) => index,
             Refusal::ArgumentTypeNotArgumentList(index) => index,
             Refusal::FunctionIdIsNotProcedureType(index) => index,
@@ -81,7 +114,7 @@ impl Refusal {
             Refusal::TooManyOpen(index) => index,
             Refusal::ChainTooLong(index) => index,
             Refusal::NoRoom => 0,
-            Refusal::UnknownCommand(command) => command as u32,
+            Refusal::UnknownCommand(command) => command,
         }
     }
 }
