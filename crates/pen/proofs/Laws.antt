@@ -83,10 +83,13 @@ put-gone buf p b h l = ap (under buf) (held-gone (p .limit) NoRoom) ∙ sym (put
 abbrev pub Halted : Page → Type 0
 Halted g = idle (g .pen .stop) ≡ true
 
-pub idle-keeps : {A : Type 0} (x : Stop) (a b : A) → idle x ≡ true → unlessStopped x a b ≡ b
+idle-keeps : {A : Type 0} (x : Stop) (a b : A) → idle x ≡ true → unlessStopped x a b ≡ b
 idle-keeps No a b h = absurd (let z : _≡_ {A = ℕ} 0 1 = cc in omega arith)
 idle-keeps (Missing i) a b h = refl
 idle-keeps (Refused f) a b h = refl
+
+pub stopped-keeps : {A : Type 0} (p : Pen) (a b : A) → (p .stop ≡ 0 → ⊥) → unlessStopped (held p .stop) a b ≡ b
+stopped-keeps p a b h = idle-keeps (held p .stop) a b (stop-some p h)
 
 pub put-halted : (g : Page) (b : ℕ) → Halted g → put g b ≡ g
 unfolding put
@@ -448,8 +451,8 @@ pub wrote-byte : {g h : Page} {b : ℕ} → h ≡ put g b → Wrote g (writing (
 wrote-byte {g} {h} {b} e = record { is = e ∙ sym (run-say g (b ∷ []) ∙ ink-one g b) }
 
 -- what catches, by cases
-pub caught-goes : {b : List ℕ} {p q : Pen} {u : ℕ → Trace Refusal} {i : ℕ} {k : Page} → held p .stop ≡ Missing i → q ≡ resumed p → Wrote (page b q) (u i) k → Caught (page b p) u k
-caught-goes {b} {p} {q} {u} {i} {k} e f w = record { is = rw (e, ← f) (w .is) }
+pub caught-goes : {b : List ℕ} (p : Pen) {q : Pen} {u : ℕ → Trace Refusal} {i : ℕ} {k : Page} → held p .stop ≡ Missing i → q ≡ resumed p → Wrote (page b q) (u i) k → Caught (page b p) u k
+caught-goes {b} p {q} {u} {i} {k} e f w = record { is = rw e (rw f at (w .is)) }
 
 -- the same laws over the shut traces
 alive : (x : Stop) → idle x ≡ false → x ≡ No

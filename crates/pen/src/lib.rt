@@ -39,10 +39,12 @@ fn store(out: &mut [u8], at: usize, b: u8)
 pub fn stop_of(p: Pen) -> Stop
     ensures { λ r. ⌜ r ≡ held p .stop ⌝ }
 {
-    match p.stop {
+    let stop = p.stop;
+    let detail = p.detail;
+    match stop {
         0 => Stop::No,
-        17 => Stop::Missing(p.detail),
-        _ => Stop::Refused(Refusal::of(p.stop, p.detail)),
+        17 => Stop::Missing(detail),
+        _ => Stop::Refused(Refusal::of(stop, detail)),
     }
 }
 
@@ -50,7 +52,10 @@ pub fn stop_of(p: Pen) -> Stop
 pub fn is_idle(p: Pen) -> bool
     ensures { λ r. ⌜ r ≡ idle (held p .stop) ⌝ }
 {
-    p.stop != 0
+    if p.stop == 0 {
+        return false;
+    }
+    true
 }
 
 // A refused pen keeps nothing but its limit.
@@ -215,7 +220,7 @@ pub fn unread(out: &[u8], p: Pen, f: Refusal) -> Pen
 
 // The last byte written since a place; 0 where there is none.
 pub fn last_since(p: Pen, start: usize) -> u64
-    ensures { λ r. ⌜ r ≡ lastSince p start ⌝ }
+    ensures { λ r. ⌜ r ≡ lastSince (held p) start ⌝ }
 {
     let at = p.at;
     if at <= start {

@@ -1,30 +1,19 @@
 -- By whether the pen has stopped.
 -- Assumes nothing.
+use mathlib.Core.Path.{sym}
 use Rattle.pen.specs.Page.{missedPen}
+use Rattle.pen.proofs.Laws.{stopped-keeps, stop-none}
 use borrow.Author.Needs.{needs}
 use Rattle.pen.proofs.missed.Statement.{statement}
 use Rattle.pen.proofs.missed.Tie as tie
 
-enum-told : tie.Need-enum-told
-enum-told c = search needs
-
-enum-told-2 : tie.Need-enum-told-2
-enum-told-2 c = search needs
-
-enum-told-3 : tie.Need-enum-told-3
-enum-told-3 c = search needs
-
 returns : tie.Need-returns
 unfolding missedPen
-returns c = simp (c .enum-told .given .1)
+returns c = sym (stopped-keeps (c .before .before .args .p) _ _ (c .if1 .taken))
 
 returns-2 : tie.Need-returns-2
 unfolding missedPen
-returns-2 c = simp (c .enum-told2 .given .1)
-
-returns-3 : tie.Need-returns-3
-unfolding missedPen
-returns-3 c = simp (c .enum-told3 .given .1)
+returns-2 c = rw (stop-none (c .before .before .args .p) (c .if1 .left))
 
 pub missed-spec : {M : Type 1} → statement M
-missed-spec = tie.close (tie.spec enum-told enum-told-2 enum-told-3 returns returns-2 returns-3)
+missed-spec = tie.close (tie.spec returns returns-2)
