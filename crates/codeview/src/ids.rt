@@ -119,7 +119,7 @@ fn decode_id(b: &[u8], base: usize, kind: u16, index: u32) -> IdRead
         0x1603 => IdRead::Good(IdData::Unhandled(kind)),
         0x1606 => IdRead::Good(IdData::Unhandled(kind)),
         0x1607 => IdRead::Good(IdData::Unhandled(kind)),
-        _ => IdRead::Refused(Refusal::UnlistedKind(kind)),
+        _ => IdRead::Refused(Refusal::UnlistedKind(kind as u32)),
     }
 }
 

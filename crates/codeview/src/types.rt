@@ -317,7 +317,7 @@ fn decode_type(b: &[u8], base: usize, kind: u16, index: u32) -> TypeRead
         0x1203 => TypeRead::Good(TypeData::Unhandled(kind)),
         0x1205 => TypeRead::Good(TypeData::Unhandled(kind)),
         0x1206 => TypeRead::Good(TypeData::Unhandled(kind)),
-        _ => TypeRead::Refused(Refusal::UnlistedKind(kind)),
+        _ => TypeRead::Refused(Refusal::UnlistedKind(kind as u32)),
     }
 }
 

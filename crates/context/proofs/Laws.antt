@@ -26,7 +26,7 @@ use Rattle.streams.specs.declared.refusal.Refusal.the-variants.{CircularTypeDef
 use Rattle.codeview.specs.declared.record.TypeData.{TypeData}
 use Rattle.codeview.specs.declared.record.TypeRead.{TypeRead}
 use Rattle.codeview.specs.declared.record.TypeRead.the-variants as typeRead
-use Rattle.pen.specs.Page.{idle, gone, counted, refusedPen, unreadPen}
+use Rattle.pen.specs.Page.{readPen, idle, gone, refusedPen, unreadPen}
 use Rattle.pen.proofs.Laws.{refused-alive}
 use Rattle.pen.specs.declared.Pen.{Pen}
 use Rattle.context.specs.Context.{intersects, keyOf, keysOf, hasIndex, flagsByte, modeByte, modeAt, levelByte, levelOf, levelAt, overLevels, sizesOf, pushedDimension}
@@ -91,11 +91,11 @@ keys-length l = length-map l keyOf
 
 -- what an opening comes to
 module _ (p : Pen) (list : List ℕ) (left : ℕ) (w : Way) (i : ℕ) where
-  pub opens-idle : idle (p .stop) ≡ true → leaves list (opening.Stopped p) ≡ opensTo p list left w i
+  pub opens-idle : idle (readPen p .stop) ≡ true → leaves list (opening.Stopped p) ≡ opensTo p list left w i
   unfolding opensTo
   opens-idle a = rw a
 
-  module _ (a : idle (p .stop) ≡ false) where
+  module _ (a : idle (readPen p .stop) ≡ false) where
     pub opens-again : (q : Pen) → hasIndex i (keysOf (drop left list)) ≡ true → q ≡ refusedPen p (CircularTypeDefinition i) → leaves list (opening.Stopped q) ≡ opensTo p list left w i
     unfolding opensTo
     opens-again q b e = rw (a, b, e, refused-alive p (CircularTypeDefinition i) a)
@@ -105,9 +105,9 @@ module _ (p : Pen) (list : List ℕ) (left : ℕ) (w : Way) (i : ℕ) where
       unfolding opensTo
       opens-full q f e = rw (a, b, eq-eqb left 0 f, e, refused-alive p (TooManyOpen i) a)
 
-      pub opens-in : (q : Pen) (x : ℕ) → (left ≡ 0 → ⊥) → q ≡ counted p → x ≡ wayOf w → leaves (set list (left - 1) (x * 4_294_967_296 + i)) (opening.Open q (left - 1)) ≡ opensTo p list left w i
+      pub opens-in : (x : ℕ) → (left ≡ 0 → ⊥) → x ≡ wayOf w → leaves (set list (left - 1) (x * 4_294_967_296 + i)) (opening.Open p (left - 1)) ≡ opensTo p list left w i
       unfolding opensTo
-      opens-in q x f e g = rw (a, b, ne-eqb left 0 f, e, g)
+      opens-in x f g = rw (a, b, ne-eqb left 0 f, g)
 
 -- an index that is opened, then read
 module _ {l : List ℕ} {r : Opening} {x : Leaves Opening} {y z : TypeRead} (e : leaves l r ≡ x) where

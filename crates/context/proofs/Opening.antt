@@ -25,9 +25,9 @@ use Rattle.rules.specs.Record.{Record, good, bad, Table, typeContents, typeAsRe
 use Rattle.rules.specs.Task.{Task, Rule, inside, unread}
 use Rattle.rules.specs.Opening.{sameIndex, entryOf, body, rank, walked, ruled}
 use Rattle.rules.proofs.Rank.{ranked}
-use Rattle.pen.specs.Page.{Page, page, Wrote, Caught, idle, gone, counted, unreadPen, unreadTrace, writing, lastSince, step, opened, stopOf, _⨾_, ending, marking}
+use Rattle.pen.specs.Page.{Page, page, Wrote, Caught, readPen, idle, gone, unreadPen, unreadTrace, writing, lastSince, step, opened, stopOf, _⨾_, ending, marking}
 use Rattle.pen.specs.declared.Pen.{Pen}
-use Rattle.pen.proofs.Laws.{_▸_, wrote-by, wrote-ending, wrote-marking, wrote-length, wrote-idle, wrote-stop, wrote-counted, wrote-unread, refused-alive}
+use Rattle.pen.proofs.Laws.{_▸_, wrote-by, wrote-ending, wrote-marking, wrote-length, wrote-idle, wrote-stop, wrote-opened, wrote-unread, refused-alive}
 use Rattle.context.specs.declared.flags.Call.{Call}
 use Rattle.context.specs.declared.seen.Way.{Way}
 use Rattle.context.specs.declared.seen.Opening.{Opening}
@@ -67,7 +67,7 @@ shut e = let z : _≡_ {A = ℕ} 0 1 = cc in omega arith
 stopped-same : {q u : Pen} → opening.Stopped q ≡ opening.Stopped u → q ≡ u
 stopped-same e = cc
 
--- What is known of an index that was opened in a list of 96: there was room, it comes right before the others, which stay, and the pen has counted it.
+-- What is known of an index that was opened in a list of 96: there was room, it comes right before the others, which stay, and the pen is as it was.
 pub record In (p : Pen) (list : List ℕ) (left : ℕ) (w : Way) (i : ℕ) (l : List ℕ) (q : Pen) (n : ℕ) : Type 0 where
   pub free : hasIndex i (keysOf (drop left list)) ≡ false
   pub few : length (drop left list) < 96
@@ -75,27 +75,27 @@ pub record In (p : Pen) (list : List ℕ) (left : ℕ) (w : Way) (i : ℕ) (l : 
   pub all : length l ≡ 96
   pub first : drop n l ≡ noted w i ∷ drop left list
   pub kept : drop left l ≡ drop left list
-  pub pen : q ≡ counted p
+  pub pen : q ≡ p
   pub small : i < 4_294_967_296
 
 module _ {p : Pen} {list : List ℕ} {left : ℕ} {w : Way} {i : ℕ} {l : List ℕ} {r : Opening} (s : Opens p list left w i l r) (room : length list ≡ 96) (low : left ≤ 96) where
   pub open-in : {q : Pen} {n : ℕ} → r ≡ opening.Open q n → In p list left w i l q n
   unfolding opensTo
-  open-in {q} {n} e = by (idle (p .stop)) (hasIndex i (keysOf (drop left list))) (eqb left 0) refl refl (s .is)
+  open-in {q} {n} e = by (idle (readPen p .stop)) (hasIndex i (keysOf (drop left list))) (eqb left 0) refl refl (s .is)
     where
       by : (a b f : Bool) → hasIndex i (keysOf (drop left list)) ≡ b → eqb left 0 ≡ f
           → leaves l r
           ≡ pick a (leaves list (opening.Stopped p))
           (pick b (leaves list (opening.Stopped (gone (p .limit) (CircularTypeDefinition i))))
           (pick f (leaves list (opening.Stopped (gone (p .limit) (TooManyOpen i))))
-          (leaves (set list (left - 1) (noted w i)) (opening.Open (counted p) (left - 1)))))
+          (leaves (set list (left - 1) (noted w i)) (opening.Open p (left - 1)))))
           → In p list left w i l q n
       by true b f x y k = absurd (shut (sym (ap (λ (a : Leaves Opening). a .answer) k) ∙ e))
       by false true f x y k = absurd (shut (sym (ap (λ (a : Leaves Opening). a .answer) k) ∙ e))
       by false false true x y k = absurd (shut (sym (ap (λ (a : Leaves Opening). a .answer) k) ∙ e))
       by false false false x y k =
           let on : l ≡ set list (left - 1) (noted w i) = ap (λ (a : Leaves Opening). a .list) k in
-          let so : r ≡ opening.Open (counted p) (left - 1) = ap (λ (a : Leaves Opening). a .answer) k in
+          let so : r ≡ opening.Open p (left - 1) = ap (λ (a : Leaves Opening). a .answer) k in
           let some : left ≡ 0 → ⊥ = eqb-false left 0 y in
           let h : 0 < left = omega arith in
           let many : n ≡ left - 1 = cc in
@@ -229,14 +229,14 @@ module _ (s : List ℕ) (d : Lent) (call : Call) where
     walk-out : {p q : Pen} (l b : List ℕ) → length list ≡ 96 → left ≤ 96 → leaves l (opening.Stopped q) ≡ opensTo p list left w i → Writes left list l (page b p) walk (page b q)
     unfolding opensTo stopOf
     walk-out {p} {q} l b room low k =
-        by (idle (p .stop)) (hasIndex i (keysOf (drop left list))) (eqb left 0) refl refl refl k
+        by (idle (readPen p .stop)) (hasIndex i (keysOf (drop left list))) (eqb left 0) refl refl refl k
       where
-        by : (y z f : Bool) → idle (p .stop) ≡ y → hasIndex i (keysOf (drop left list)) ≡ z → eqb left 0 ≡ f
+        by : (y z f : Bool) → idle (readPen p .stop) ≡ y → hasIndex i (keysOf (drop left list)) ≡ z → eqb left 0 ≡ f
             → leaves l (opening.Stopped q)
             ≡ pick y (leaves list (opening.Stopped p))
             (pick z (leaves list (opening.Stopped (gone (p .limit) (CircularTypeDefinition i))))
             (pick f (leaves list (opening.Stopped (gone (p .limit) (TooManyOpen i))))
-            (leaves (set list (left - 1) (noted w i)) (opening.Open (counted p) (left - 1)))))
+            (leaves (set list (left - 1) (noted w i)) (opening.Open p (left - 1)))))
             → Writes left list l (page b p) walk (page b q)
         by true z f a g j m =
             let same : q ≡ p = stopped-same (ap (λ (a : Leaves Opening). a .answer) m) in
@@ -265,7 +265,7 @@ module _ (s : List ℕ) (d : Lent) (call : Call) where
         → Writes n l m (page b q) (λ o. ruled c t (holding call o) k) g → Writes left list m (page b p) walk g
     opened-then {p} {q} {l} {m} {n} b k z e₀ v =
         record {
-          wrote = wrote-by (wrote-counted b p q (z .pen) ▸ v .wrote) (open-then (drop left list) x w i e (drop n l) k (z .free) (z .few) (z .small) (z .first) e₀);
+          wrote = wrote-by (wrote-opened b p q (z .pen) ▸ v .wrote) (open-then (drop left list) x w i e (drop n l) k (z .free) (z .few) (z .small) (z .first) e₀);
           kept = in-kept m z (v .kept);
         }
 

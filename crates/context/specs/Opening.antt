@@ -11,7 +11,7 @@ use Rattle.codeview.specs.Read.{readTypeIn}
 use Rattle.codeview.specs.declared.record.TypeRead.{TypeRead}
 use Rattle.codeview.specs.declared.record.TypeRead.the-variants as typeRead
 use Rattle.interpreter.specs.Trace.{Trace}
-use Rattle.pen.specs.Page.{Page, Wrote, idle, gone, counted, unreadPen}
+use Rattle.pen.specs.Page.{Page, Wrote, readPen, idle, gone, unreadPen}
 use Rattle.pen.specs.declared.Pen.{Pen}
 use Rattle.context.specs.Context.{keysOf, hasIndex}
 use Rattle.context.specs.declared.seen.Way.{Way}
@@ -42,14 +42,13 @@ pub record Leaves (A : Type 0) : Type 0 where
 abbrev pub leaves : {A : Type 0} → List ℕ → A → Leaves A
 leaves l r = record { list = l; answer = r }
 
--- A stopped pen opens nothing; "12 is tested before 13"; an index that is opened is written right below those that are open, which begin there then, and is
--- counted.
+-- A stopped pen opens nothing; "12 is tested before 13"; an index that is opened is written right below those that are open, which begin there then.
 unfoldable pub opensTo : Pen → List ℕ → ℕ → Way → ℕ → Leaves Opening
 opensTo p list left w i =
-    pick (idle (p .stop)) (leaves list (opening.Stopped p))
+    pick (idle (readPen p .stop)) (leaves list (opening.Stopped p))
     (pick (hasIndex i (keysOf (drop left list))) (leaves list (opening.Stopped (gone (p .limit) (CircularTypeDefinition i))))
     (pick (eqb left 0) (leaves list (opening.Stopped (gone (p .limit) (TooManyOpen i))))
-    (leaves (set list (left - 1) (noted w i)) (opening.Open (counted p) (left - 1)))))
+    (leaves (set list (left - 1) (noted w i)) (opening.Open p (left - 1)))))
 
 -- What `open_index` leaves; the index is a u32.
 pub record Opens (p : Pen) (list : List ℕ) (left : ℕ) (w : Way) (i : ℕ) (l : List ℕ) (r : Opening) : Type 0 where

@@ -24,7 +24,7 @@ pub enum Way {
     List,
 }
 
-// What an opening comes to: the index is open, the pen has counted it, and this is where the open ones begin now; or nothing is opened, and the pen has stopped.
+// What an opening comes to: the index is open, the pen is as it was, and this is where the open ones begin now; or nothing is opened, and the pen has stopped.
 pub enum Opening {
     Open(Pen, usize),
     Stopped(Pen),
@@ -79,7 +79,7 @@ pub fn open_index(p: Pen, seen: &mut [u64], left: usize, way: Way, index: TypeIn
     }
     let number = way_number(way);
     seen[left - 1] = number * 4_294_967_296 + (index.0 as u64);
-    Opening::Open(pen::tick(p), left - 1)
+    Opening::Open(p, left - 1)
 }
 
 // Opens an index, then reads it. A missing one ends the text.

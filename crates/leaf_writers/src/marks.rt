@@ -64,7 +64,7 @@ pub fn emit_mark(out: &mut [u8], p: Pen, f: Refusal) -> Pen
 {
     match f {
         Refusal::Missing(index) => missing(out, p, index),
-        Refusal::UnlistedKind(kind) => unimplemented(out, p, kind as u32),
+        Refusal::UnlistedKind(kind) => unimplemented(out, p, kind),
         _ => pen::refuse(out, p, f),
     }
 }

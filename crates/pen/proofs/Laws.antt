@@ -25,7 +25,7 @@ use Rattle.interpreter.specs.Trace.{Note, End, done, missing, refused, halted, 
 use Rattle.pen.specs.declared.Pen.{Pen}
 use Rattle.pen.specs.declared.Stop.{Stop}
 use Rattle.pen.specs.declared.Stop.the-variants.{No, Missing, Refused}
-use Rattle.pen.specs.Page.{stopIn, Held, held, Page, under, page, ended, gone, put, putAt, unlessStopped, ink, stopOf, endAs, finish, pageAfter, Wrote, writing, step, lastSince, resumed, goOn, Caught, idle, opened, last, _⨾_, ending, marking, bytesOf, refusedPen, missedPen, unreadPen, unreadTrace}
+use Rattle.pen.specs.Page.{stopIn, PenRead, readPen, Page, under, page, ended, gone, put, putAt, unlessStopped, ink, stopOf, endAs, finish, pageAfter, Wrote, writing, step, lastSince, resumed, goOn, Caught, idle, opened, last, _⨾_, ending, marking, bytesOf, refusedPen, missedPen, unreadPen, unreadTrace}
 
 -- The two numbers of a pen, read: a refusal's are its own.
 refusal-back : (f : Refusal) → stopIn (numberOf f) (detailOf f) ≡ Refused f
@@ -49,13 +49,13 @@ refusal-back (refusal.ChainTooLong index) = refl
 refusal-back refusal.NoRoom = refl
 refusal-back (refusal.UnknownCommand command) = refl
 
-pub held-gone : (limit : ℕ) (f : Refusal) → held (gone limit f) ≡ ended limit f
-held-gone limit f = rw (refusal-back f)
+pub read-gone : (limit : ℕ) (f : Refusal) → readPen (gone limit f) ≡ ended limit f
+read-gone limit f = rw (refusal-back f)
 
-pub stop-none : (p : Pen) → p .stop ≡ 0 → held p .stop ≡ No
+pub stop-none : (p : Pen) → p .stop ≡ 0 → readPen p .stop ≡ No
 stop-none p e = rw e
 
-pub stop-some : (p : Pen) → (p .stop ≡ 0 → ⊥) → idle (held p .stop) ≡ true
+pub stop-some : (p : Pen) → (p .stop ≡ 0 → ⊥) → idle (readPen p .stop) ≡ true
 stop-some p h = rw (ne-eqb (p .stop) 0 h) (by (eqb (p .stop) 17))
   where
     by : (b : Bool) → idle (pick b (Missing (p .detail)) (Refused (refusalOf (p .stop) (p .detail)))) ≡ true
@@ -63,21 +63,21 @@ stop-some p h = rw (ne-eqb (p .stop) 0 h) (by (eqb (p .stop) 17))
     by false = refl
 
 -- one byte, by cases
-put-fits : (buf : List ℕ) (p : Held) (b : ℕ) → p .stop ≡ No → p .at < p .limit
+put-fits : (buf : List ℕ) (p : PenRead) (b : ℕ) → p .stop ≡ No → p .at < p .limit
     → put (under buf p) b ≡ under (set buf (p .at) b) (record { at = p .at + 1; last = b; limit = p .limit; stop = No })
 unfolding put
 put-fits buf p b h l = simp (h, lt-ltb _ _ l)
 
 pub put-stored : (buf out : List ℕ) (p : Pen) (b : ℕ) → out ≡ set buf (p .at) b → p .stop ≡ 0 → p .at < p .limit
     → page out (record { at = p .at + 1; last = b; limit = p .limit; stop = 0; detail = 0 }) ≡ put (page buf p) b
-put-stored buf out p b e h l = rw e (sym (put-fits buf (held p) b (stop-none p h) l))
+put-stored buf out p b e h l = rw e (sym (put-fits buf (readPen p) b (stop-none p h) l))
 
-put-full : (buf : List ℕ) (p : Held) (b : ℕ) → p .stop ≡ No → p .limit ≤ p .at → put (under buf p) b ≡ under buf (ended (p .limit) NoRoom)
+put-full : (buf : List ℕ) (p : PenRead) (b : ℕ) → p .stop ≡ No → p .limit ≤ p .at → put (under buf p) b ≡ under buf (ended (p .limit) NoRoom)
 unfolding put
 put-full buf p b h l = simp (h, le-ltb _ _ l)
 
 pub put-gone : (buf : List ℕ) (p : Pen) (b : ℕ) → p .stop ≡ 0 → p .limit ≤ p .at → page buf (gone (p .limit) NoRoom) ≡ put (page buf p) b
-put-gone buf p b h l = ap (under buf) (held-gone (p .limit) NoRoom) ∙ sym (put-full buf (held p) b (stop-none p h) l)
+put-gone buf p b h l = ap (under buf) (read-gone (p .limit) NoRoom) ∙ sym (put-full buf (readPen p) b (stop-none p h) l)
 
 -- a page whose pen has stopped
 abbrev pub Halted : Page → Type 0
@@ -88,8 +88,8 @@ idle-keeps No a b h = absurd (let z : _≡_ {A = ℕ} 0 1 = cc in omega arith)
 idle-keeps (Missing i) a b h = refl
 idle-keeps (Refused f) a b h = refl
 
-pub stopped-keeps : {A : Type 0} (p : Pen) (a b : A) → (p .stop ≡ 0 → ⊥) → unlessStopped (held p .stop) a b ≡ b
-stopped-keeps p a b h = idle-keeps (held p .stop) a b (stop-some p h)
+pub stopped-keeps : {A : Type 0} (p : Pen) (a b : A) → (p .stop ≡ 0 → ⊥) → unlessStopped (readPen p .stop) a b ≡ b
+stopped-keeps p a b h = idle-keeps (readPen p .stop) a b (stop-some p h)
 
 pub put-halted : (g : Page) (b : ℕ) → Halted g → put g b ≡ g
 unfolding put
@@ -210,10 +210,10 @@ wrote-idle {g} {t} h = record { is = sym (run-halted g t h) }
 -- what stops a pen: an end with nothing written before it
 finish-refused : (b : List ℕ) (p : Pen) (f : Refusal) → page b (refusedPen p f) ≡ finish (page b p) (Refused f)
 unfolding refusedPen
-finish-refused b p f = by (held p .stop) refl
+finish-refused b p f = by (readPen p .stop) refl
   where
-    by : (x : Stop) → held p .stop ≡ x → page b (unlessStopped x (gone (p .limit) f) p) ≡ under b (unlessStopped x (ended (p .limit) f) (held p))
-    by No e = ap (under b) (held-gone (p .limit) f)
+    by : (x : Stop) → readPen p .stop ≡ x → page b (unlessStopped x (gone (p .limit) f) p) ≡ under b (unlessStopped x (ended (p .limit) f) (readPen p))
+    by No e = ap (under b) (read-gone (p .limit) f)
     by (Missing i) e = refl
     by (Refused g) e = refl
 
@@ -223,10 +223,10 @@ wrote-stop b p q e n f h k = record { is = rw (h, k) (finish-refused b p f) }
 
 finish-missing : (b : List ℕ) (p : Pen) (i : ℕ) → page b (missedPen p i) ≡ finish (page b p) (Missing i)
 unfolding missedPen
-finish-missing b p i = by (held p .stop) refl
+finish-missing b p i = by (readPen p .stop) refl
   where
-    by : (x : Stop) → held p .stop ≡ x
-        → page b (unlessStopped x (record { at = p .at; last = p .last; limit = p .limit; stop = 17; detail = i }) p) ≡ under b (unlessStopped x (endAs (held p) (Missing i)) (held p))
+    by : (x : Stop) → readPen p .stop ≡ x
+        → page b (unlessStopped x (record { at = p .at; last = p .last; limit = p .limit; stop = 17; detail = i }) p) ≡ under b (unlessStopped x (endAs (readPen p) (Missing i)) (readPen p))
     by No e = refl
     by (Missing j) e = refl
     by (Refused g) e = refl
@@ -241,14 +241,14 @@ unfolding ink step
 wrote-step {g} = record { is = sym (run-done g [] [] (count 0 1)) }
 
 -- nor does opening it
-pub wrote-opened : {g : Page} → Wrote g opened g
+pub wrote-opened : (b : List ℕ) (p q : Pen) → q ≡ p → Wrote (page b p) opened (page b q)
 unfolding ink opened
-wrote-opened {g} = record { is = sym (run-done g [] [] (count 1 1)) }
+wrote-opened b p q e = record { is = ap (page b) e ∙ sym (run-done (page b p) [] [] (count 1 1)) }
 
 -- a pen that has not stopped, refused
-pub refused-alive : (p : Pen) (f : Refusal) → idle (held p .stop) ≡ false → refusedPen p f ≡ gone (p .limit) f
+pub refused-alive : (p : Pen) (f : Refusal) → idle (readPen p .stop) ≡ false → refusedPen p f ≡ gone (p .limit) f
 unfolding refusedPen
-refused-alive p f h = by (held p .stop) h
+refused-alive p f h = by (readPen p .stop) h
   where
     by : (x : Stop) → idle x ≡ false → unlessStopped x (gone (p .limit) f) p ≡ gone (p .limit) f
     by No h = refl
@@ -296,7 +296,7 @@ not-number k ks f h n =
 Ended : Page → ℕ → ℕ → Type 0
 Ended g start b = Halted g ⊎ ((lastSince (g .pen) start ≡ b) × (start ≤ g .pen .at))
 
-ends-put-no : (b : List ℕ) (p : Held) (v start : ℕ) → p .stop ≡ No → start ≤ p .at → Dec (p .at < p .limit) → Ended (put (under b p) v) start v
+ends-put-no : (b : List ℕ) (p : PenRead) (v start : ℕ) → p .stop ≡ No → start ≤ p .at → Dec (p .at < p .limit) → Ended (put (under b p) v) start v
 unfolding Ended lastSince
 ends-put-no b p v start e h (yes l) = rw (put-fits b p v e l) (inr (rw (lt-leb (p .at + 1) start (omega arith)), omega arith))
 ends-put-no b p v start e h (no l) = rw (put-full b p v e (omega arith)) (inl refl)
@@ -451,7 +451,7 @@ pub wrote-byte : {g h : Page} {b : ℕ} → h ≡ put g b → Wrote g (writing (
 wrote-byte {g} {h} {b} e = record { is = e ∙ sym (run-say g (b ∷ []) ∙ ink-one g b) }
 
 -- what catches, by cases
-pub caught-goes : {b : List ℕ} (p : Pen) {q : Pen} {u : ℕ → Trace Refusal} {i : ℕ} {k : Page} → held p .stop ≡ Missing i → q ≡ resumed p → Wrote (page b q) (u i) k → Caught (page b p) u k
+pub caught-goes : {b : List ℕ} (p : Pen) {q : Pen} {u : ℕ → Trace Refusal} {i : ℕ} {k : Page} → readPen p .stop ≡ Missing i → q ≡ resumed p → Wrote (page b q) (u i) k → Caught (page b p) u k
 caught-goes {b} p {q} {u} {i} {k} e f w = record { is = rw e (rw f at (w .is)) }
 
 -- the same laws over the shut traces
@@ -501,14 +501,14 @@ copy-all d s i l h e = sym (take-all i d (omega arith)) ∙ e ∙ take-all i s h
 
 -- What it says that a run of n bytes has room.
 pub record Room (p : Pen) (len n : ℕ) : Type 0 where
-  pub goes : held p .stop ≡ No
+  pub goes : readPen p .stop ≡ No
   pub fits : p .at + n ≤ p .limit
   pub within : p .limit ≤ len
 
-pub room-tells : (p : Pen) (len n r : ℕ) → r ≡ unlessStopped (held p .stop) (pick (leb (p .limit) len) (p .limit - p .at) 0) 0 → 0 < n → n ≤ r → Room p len n
-room-tells p len n r e z h = by (held p .stop) refl (leb (p .limit) len) refl (rw e at h)
+pub room-tells : (p : Pen) (len n r : ℕ) → r ≡ unlessStopped (readPen p .stop) (pick (leb (p .limit) len) (p .limit - p .at) 0) 0 → 0 < n → n ≤ r → Room p len n
+room-tells p len n r e z h = by (readPen p .stop) refl (leb (p .limit) len) refl (rw e at h)
   where
-    by : (x : Stop) → held p .stop ≡ x → (b : Bool) → leb (p .limit) len ≡ b → n ≤ unlessStopped x (pick b (p .limit - p .at) 0) 0 → Room p len n
+    by : (x : Stop) → readPen p .stop ≡ x → (b : Bool) → leb (p .limit) len ≡ b → n ≤ unlessStopped x (pick b (p .limit - p .at) 0) 0 → Room p len n
     by No s true l k = record { goes = s; fits = omega arith; within = leb-true _ _ l }
     by No s false l k = absurd (omega arith)
     by (Missing i) s b l k = absurd (omega arith)
@@ -528,7 +528,7 @@ module _ (buf ys s : List ℕ) (p : Pen) (k : ℕ) where
       → Wrote (page buf p) (writing s) (page (take (p .at) buf ++ (ys ++ drop k (drop (p .at) buf))) (record { at = p .at + length s; last = getD s (length s - 1) 0; limit = p .limit; stop = 0; detail = 0 }))
   wrote-run m z e f = record { is = ap (λ (b : List ℕ). under b q) whole ∙ sym inked }
     where
-      q : Held
+      q : PenRead
       q = record { at = p .at + length s; last = getD s (length s - 1) 0; limit = p .limit; stop = No }
 
       whole : take (p .at) buf ++ (ys ++ drop k (drop (p .at) buf)) ≡ sets buf (p .at) s
@@ -538,17 +538,17 @@ module _ (buf ys s : List ℕ) (p : Pen) (k : ℕ) where
       inked = run-say (page buf p) s ∙ ap (λ x. ink (under buf (record { at = p .at; last = p .last; limit = p .limit; stop = x })) s) (m .goes) ∙ ink-fits s buf (p .at) (p .last) (p .limit) (m .fits) ∙ rw (last-at (p .last) s (length s - 1) (omega arith))
 
 -- what a text that fits leaves
-pub record Ran (buf : List ℕ) (limit : ℕ) (bs : List ℕ) (b : List ℕ) (q : Held) : Type 0 where
+pub record Ran (buf : List ℕ) (limit : ℕ) (bs : List ℕ) (b : List ℕ) (q : PenRead) : Type 0 where
   pub at : q .at ≡ length bs
   pub buffer : b ≡ sets buf 0 bs
   pub room : length bs ≤ limit
 
-end-stop : (p : Held) (x : Stop) → p .stop ≡ No → endAs p x .stop ≡ x
+end-stop : (p : PenRead) (x : Stop) → p .stop ≡ No → endAs p x .stop ≡ x
 end-stop p No e = e
 end-stop p (Missing i) e = refl
 end-stop p (Refused f) e = refl
 
-module _ (buf : List ℕ) (limit : ℕ) (bs : List ℕ) (e : End Refusal) (ns : List Note) (c : Count) (b : List ℕ) (q : Held) where
+module _ (buf : List ℕ) (limit : ℕ) (bs : List ℕ) (e : End Refusal) (ns : List Note) (c : Count) (b : List ℕ) (q : PenRead) where
   ran : length bs ≤ limit → pageAfter (under buf (record { at = 0; last = 0; limit = limit; stop = No })) (tr bs e ns c)
       ≡ under (sets buf 0 bs) (endAs (record { at = 0 + length bs; last = last 0 bs; limit = limit; stop = No }) (stopOf e))
   unfolding pageAfter
@@ -558,7 +558,7 @@ module _ (buf : List ℕ) (limit : ℕ) (bs : List ℕ) (e : End Refusal) (ns : 
       → (q .stop ≡ stopOf e) × (q .stop ≡ No → Ran buf limit bs b q)
   ran-fits h w = (stops, λ n. whole (stopOf e) refl (sym stops ∙ n))
     where
-      p : Held
+      p : PenRead
       p = record { at = 0 + length bs; last = last 0 bs; limit = limit; stop = No }
 
       is : under b q ≡ under (sets buf 0 bs) (endAs p (stopOf e))

@@ -19,34 +19,34 @@ abbrev pub stopIn : ℕ → ℕ → Stop
 stopIn n d = pick (eqb n 0) No (pick (eqb n 17) (Missing d) (Refused (refusalOf n d)))
 
 -- a pen, read
-pub record Held : Type 0 where
+pub record PenRead : Type 0 where
   pub at : ℕ
   pub last : ℕ
   pub limit : ℕ
   pub stop : Stop
 
-abbrev pub held : Pen → Held
-held p = record { at = p .at; last = p .last; limit = p .limit; stop = stopIn (p .stop) (p .detail) }
+abbrev pub readPen : Pen → PenRead
+readPen p = record { at = p .at; last = p .last; limit = p .limit; stop = stopIn (p .stop) (p .detail) }
 
 pub record Page : Type 0 where
   pub buf : List ℕ
-  pub pen : Held
+  pub pen : PenRead
 
-abbrev pub under : List ℕ → Held → Page
+abbrev pub under : List ℕ → PenRead → Page
 under b p = record { buf = b; pen = p }
 
 abbrev pub page : List ℕ → Pen → Page
-page b p = under b (held p)
+page b p = under b (readPen p)
 
 -- a pen that was refused keeps nothing but its limit
-abbrev pub ended : ℕ → Refusal → Held
+abbrev pub ended : ℕ → Refusal → PenRead
 ended limit f = record { at = 0; last = 0; limit = limit; stop = Refused f }
 
 abbrev pub gone : ℕ → Refusal → Pen
 gone limit f = record { at = 0; last = 0; limit = limit; stop = numberOf f; detail = detailOf f }
 
 -- one byte at a place: where the limit is reached, refusal 15. (Past the end of the buffer `set` changes nothing.)
-abbrev pub putAt : List ℕ → Held → ℕ → Page
+abbrev pub putAt : List ℕ → PenRead → ℕ → Page
 putAt buf p b =
     pick (ltb (p .at) (p .limit))
     (under (set buf (p .at) b) (record { at = p .at + 1; last = b; limit = p .limit; stop = No }))
@@ -76,7 +76,7 @@ stopOf (halted (deep i)) = Refused (TooManyOpen i)
 stopOf (halted (long i)) = Refused (ChainTooLong i)
 stopOf unfinished = Refused NoRoom
 
-abbrev pub endAs : Held → Stop → Held
+abbrev pub endAs : PenRead → Stop → PenRead
 endAs p No = p
 endAs p (Missing i) = record { at = p .at; last = p .last; limit = p .limit; stop = Missing i }
 endAs p (Refused f) = ended (p .limit) f
@@ -100,7 +100,7 @@ unfoldable pub step : Trace Refusal
 step = tr [] done [] (count 0 1)
 
 -- the last byte written since start; 0 where there is none
-unfoldable pub lastSince : Held → ℕ → ℕ
+unfoldable pub lastSince : PenRead → ℕ → ℕ
 lastSince p start = pick (leb (p .at) start) 0 (p .last)
 
 -- a pen that stopped goes on
@@ -148,11 +148,11 @@ bytesOf (tr bs e ns c) = bs
 
 -- A pen that has not stopped is refused.
 unfoldable pub refusedPen : Pen → Refusal → Pen
-refusedPen p f = unlessStopped (held p .stop) (gone (p .limit) f) p
+refusedPen p f = unlessStopped (readPen p .stop) (gone (p .limit) f) p
 
 -- A pen that has not stopped ends its text at a missing index.
 unfoldable pub missedPen : Pen → ℕ → Pen
-missedPen p i = unlessStopped (held p .stop) (record { at = p .at; last = p .last; limit = p .limit; stop = 17; detail = i }) p
+missedPen p i = unlessStopped (readPen p .stop) (record { at = p .at; last = p .last; limit = p .limit; stop = 17; detail = i }) p
 
 -- What could not be read inside a type: a missing record ends the text, anything else is refused. The pen, and the trace.
 unfoldable pub unreadPen : Pen → Refusal → Pen

@@ -7,7 +7,7 @@ ghost use lib.Dec.{leb};
 ghost use lib.ListN.{length, set};
 ghost use Rattle.wire.specs.Field.{pick};
 ghost use Rattle.interpreter.specs.Trace.{tr, refused, halted, long, count};
-ghost use Rattle.pen.specs.Page.{held, page, put, unlessStopped, Wrote, lastSince, resumed, refusedPen, missedPen, unreadPen, writing, idle, unreadTrace};
+ghost use Rattle.pen.specs.Page.{readPen, page, put, unlessStopped, Wrote, lastSince, resumed, refusedPen, missedPen, unreadPen, writing, idle, unreadTrace};
 use streams::refusal::Refusal;
 
 // How a pen has stopped.
@@ -37,7 +37,7 @@ fn store(out: &mut [u8], at: usize, b: u8)
 
 // How a pen has stopped, by its two numbers.
 pub fn stop_of(p: Pen) -> Stop
-    ensures { λ r. ⌜ r ≡ held p .stop ⌝ }
+    ensures { λ r. ⌜ r ≡ readPen p .stop ⌝ }
 {
     let stop = p.stop;
     let detail = p.detail;
@@ -50,7 +50,7 @@ pub fn stop_of(p: Pen) -> Stop
 
 // Whether the pen has stopped.
 pub fn is_idle(p: Pen) -> bool
-    ensures { λ r. ⌜ r ≡ idle (held p .stop) ⌝ }
+    ensures { λ r. ⌜ r ≡ idle (readPen p .stop) ⌝ }
 {
     if p.stop == 0 {
         return false;
@@ -126,7 +126,7 @@ fn copy(to: &mut [u8], s: &[u8])
 
 // How many bytes there is room for at once: none where the pen has stopped or its limit is past the buffer.
 fn room(p: Pen, len: usize) -> usize
-    ensures { λ r. ⌜ r ≡ unlessStopped (held p .stop) (pick (leb (p .limit) len) (p .limit - p .at) 0) 0 ⌝ }
+    ensures { λ r. ⌜ r ≡ unlessStopped (readPen p .stop) (pick (leb (p .limit) len) (p .limit - p .at) 0) 0 ⌝ }
 {
     if p.stop != 0 {
         return 0;
@@ -220,7 +220,7 @@ pub fn unread(out: &[u8], p: Pen, f: Refusal) -> Pen
 
 // The last byte written since a place; 0 where there is none.
 pub fn last_since(p: Pen, start: usize) -> u64
-    ensures { λ r. ⌜ r ≡ lastSince (held p) start ⌝ }
+    ensures { λ r. ⌜ r ≡ lastSince (readPen p) start ⌝ }
 {
     let at = p.at;
     if at <= start {

@@ -267,7 +267,7 @@ fn line_of(
             number,
             size_over(types, bounds, places, s.size, TypeIndex(i)),
         ),
-        Command::Faulty(b) => write_refused(line, number, Refusal::UnknownCommand(b)),
+        Command::Faulty(b) => write_refused(line, number, Refusal::UnknownCommand(b as u32)),
         Command::End => 0,
         Command::Flags(n) => 0,
         Command::PointerSize(n) => 0,
