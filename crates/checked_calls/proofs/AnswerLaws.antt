@@ -11,7 +11,7 @@ use borrow.Author.Tests.{le-leb, lt-leb}
 use Rattle.streams.specs.declared.refusal.Refusal.{Refusal}
 use Rattle.streams.specs.declared.refusal.Refusal.the-variants as refusal
 use Rattle.interpreter.specs.Trace.{End, done, missing, refused, halted, unfinished, again, deep, long, Trace, tr}
-use Rattle.pen.specs.Page.{page, Wrote, stopOf}
+use Rattle.pen.specs.Page.{readPen, page, Wrote, stopOf}
 use Rattle.pen.proofs.Laws.{Ran, ran-fits, ran-over, wrote-length}
 use Rattle.pen.specs.declared.Pen.{Pen}
 use Rattle.pen.specs.declared.Stop.{Stop}
@@ -21,15 +21,15 @@ use Rattle.checked_calls.specs.declared.answer.Answer.the-variants.{Text
 use Rattle.checked_calls.specs.Answers.{ofAnswer, given, laid, started, closedAs, closed}
 
 -- the ends of `close`
-pub close-no : (b : List ℕ) (p : Pen) → p .stop ≡ stop.No → given b (Text (p .at)) ≡ closed b p
+pub close-no : (b : List ℕ) (p : Pen) → readPen p .stop ≡ stop.No → given b (Text (p .at)) ≡ closed b p
 unfolding closed ofAnswer
 close-no b p e = rw e
 
-pub close-missing : (b c : List ℕ) (p : Pen) (i : ℕ) → c ≡ replicate (length b) 0 → p .stop ≡ stop.Missing i → given c (Refused (refusal.Missing i)) ≡ closed b p
+pub close-missing : (b c : List ℕ) (p : Pen) (i : ℕ) → c ≡ replicate (length b) 0 → readPen p .stop ≡ stop.Missing i → given c (Refused (refusal.Missing i)) ≡ closed b p
 unfolding closed ofAnswer
 close-missing b c p i f e = rw (e, f)
 
-pub close-refused : (b c : List ℕ) (p : Pen) (r : Refusal) → c ≡ replicate (length b) 0 → p .stop ≡ stop.Refused r → given c (Refused r) ≡ closed b p
+pub close-refused : (b c : List ℕ) (p : Pen) (r : Refusal) → c ≡ replicate (length b) 0 → readPen p .stop ≡ stop.Refused r → given c (Refused r) ≡ closed b p
 unfolding closed ofAnswer
 close-refused b c p r f e = rw (e, f)
 
@@ -53,8 +53,8 @@ answer-stop unfinished bs c = refl
 record Gave (buf : List ℕ) (limit : ℕ) (t : Trace Refusal) (b : List ℕ) (q : Pen) : Type 0 where
   bytes : List ℕ
   many : ℕ
-  is : within limit t ≡ answered (q .stop) bytes many
-  whole : q .stop ≡ stop.No → Ran buf limit bytes many b q
+  is : within limit t ≡ answered (readPen q .stop) bytes many
+  whole : readPen q .stop ≡ stop.No → Ran buf limit bytes b (readPen q)
 
 gave : (buf : List ℕ) (limit : ℕ) (t : Trace Refusal) (b : List ℕ) (q : Pen) → Wrote (page buf (started limit)) t (page b q) → Gave buf limit t b q
 unfolding within started
@@ -62,15 +62,15 @@ gave buf limit (tr bs e ns c) b q w = by (decLe (length bs) limit)
   where
     by : Dec (length bs ≤ limit) → Gave buf limit (tr bs e ns c) b q
     by (yes h) =
-        let f = ran-fits buf limit bs e ns c b q h w in
+        let f = ran-fits buf limit bs e ns c b (readPen q) h w in
         record { bytes = bs; many = c .opened; is = rw (le-leb (length bs) limit h, f .0) (answer-stop e bs (c .opened)); whole = f .1 }
     by (no h) =
         let l : limit < length bs = omega arith in
-        let f = ran-over buf limit bs e ns c b q l w in
+        let f = ran-over buf limit bs e ns c b (readPen q) l w in
         record { bytes = bs; many = c .opened; is = rw (lt-leb (length bs) limit l, f) refl; whole = λ n. absurd (let z : _≡_ {A = ℕ} 0 1 = cc (f, n) in omega arith) }
 
 module _ (buf : List ℕ) (t : Trace Refusal) (b : List ℕ) (q : Pen) where
-  laid-at : (x : Stop) (limit : ℕ) → q .stop ≡ x → limit ≡ length buf → length b ≡ length buf → Gave buf limit t b q → closedAs x b (q .at) ≡ laid buf (within limit t)
+  laid-at : (x : Stop) (limit : ℕ) → readPen q .stop ≡ x → limit ≡ length buf → length b ≡ length buf → Gave buf limit t b q → closedAs x b (q .at) ≡ laid buf (within limit t)
   unfolding laid bufferAfter ofText
   laid-at stop.No limit e h n g =
       let i : within limit t ≡ text (g .bytes) (g .many) = g .is ∙ ap (λ x. answered x (g .bytes) (g .many)) e in
@@ -83,4 +83,4 @@ module _ (buf : List ℕ) (t : Trace Refusal) (b : List ℕ) (q : Pen) where
 -- a walk from the start of the buffer is answered as the rules say
 pub answer-is : {buf b : List ℕ} {q : Pen} {t : Trace Refusal} → Wrote (page buf (started (length buf))) t (page b q) → closed b q ≡ laid buf (within (length buf) t)
 unfolding closed
-answer-is {buf} {b} {q} {t} w = laid-at buf t b q (q .stop) (length buf) refl refl (wrote-length w) (gave buf (length buf) t b q w)
+answer-is {buf} {b} {q} {t} w = laid-at buf t b q (readPen q .stop) (length buf) refl refl (wrote-length w) (gave buf (length buf) t b q w)

@@ -5,6 +5,7 @@ use lib.ListN.{length, replicate}
 use Rattle.streams.specs.declared.refusal.Refusal.{Refusal}
 use Rattle.streams.specs.declared.refusal.Refusal.the-variants as refusal
 use Rattle.pen.specs.declared.Pen.{Pen}
+use Rattle.pen.specs.Page.{readPen}
 use Rattle.pen.specs.declared.Stop.{Stop}
 use Rattle.pen.specs.declared.Stop.the-variants as stop
 use Rattle.rules.specs.Call.{Outcome, bufferAfter, Report, refusedBy, accepted, ofText}
@@ -32,7 +33,7 @@ laid buf o = left (bufferAfter buf o) (ofText o)
 
 -- The pen before the first byte, and what is answered by the pen at the end. Outside every type a missing record is refusal 8.
 unfoldable pub started : ℕ → Pen
-started limit = record { at = 0; last = 0; opened = 0; limit = limit; stop = stop.No }
+started limit = record { at = 0; last = 0; limit = limit; stop = 0; detail = 0 }
 
 abbrev pub closedAs : Stop → List ℕ → ℕ → Result
 closedAs stop.No b n = left b (accepted n)
@@ -40,4 +41,4 @@ closedAs (stop.Missing i) b n = left (replicate (length b) 0) (refusedBy (refusa
 closedAs (stop.Refused f) b n = left (replicate (length b) 0) (refusedBy f)
 
 unfoldable pub closed : List ℕ → Pen → Result
-closed b p = closedAs (p .stop) b (p .at)
+closed b p = closedAs (readPen p .stop) b (p .at)

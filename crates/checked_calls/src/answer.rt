@@ -29,9 +29,9 @@ pub fn start(limit: usize) -> Pen
     Pen {
         at: 0,
         last: 0,
-        opened: 0,
         limit,
-        stop: Stop::No,
+        stop: 0,
+        detail: 0,
     }
 }
 
@@ -39,8 +39,7 @@ pub fn start(limit: usize) -> Pen
 pub fn close(out: &mut [u8], p: Pen) -> Answer
     ensures { λ r. ⌜ given (now (out .exit)) r ≡ closed (now (out .entry)) p ⌝ }
 {
-    let stop = p.stop;
-    match stop {
+    match pen::stop_of(p) {
         Stop::No => Answer::Text(p.at),
         Stop::Missing(index) => {
             clear(out);

@@ -164,10 +164,10 @@ pub _▸▸_ : {left : ℕ} {list l m : List ℕ} {g h k : Page} {t u : List ℕ
 a ▸▸ b = record { wrote = a .wrote ▸ wrote-at b (a .kept); kept = b .kept ∙ a .kept }
 
 pub writes-ending : {left : ℕ} {list l : List ℕ} {g h k : Page} {t : List ℕ → Trace Refusal} (f : ℕ → List ℕ) (start : ℕ) → start ≡ g .pen .at → Writes left list l g t h
-    → Wrote h (writing (f (lastSince (h .pen) start))) k → Writes left list l g (λ o. ending (t o) f) k
+    → Wrote h (writing (f (lastSince (readPen (h .pen)) start))) k → Writes left list l g (λ o. ending (t o) f) k
 writes-ending f start s a w = record { wrote = wrote-ending f start s (a .wrote) w; kept = a .kept }
 
-pub writes-marking : {left : ℕ} {list l : List ℕ} {g h k : Page} {t : List ℕ → Trace Refusal} {u : ℕ → Trace Refusal} → idle (g .pen .stop) ≡ false → Writes left list l g t h
+pub writes-marking : {left : ℕ} {list l : List ℕ} {g h k : Page} {t : List ℕ → Trace Refusal} {u : ℕ → Trace Refusal} → idle (readPen (g .pen) .stop) ≡ false → Writes left list l g t h
     → Caught h u k → Writes left list l g (λ o. marking (t o) u) k
 writes-marking e a f = record { wrote = wrote-marking e (a .wrote) f; kept = a .kept }
 

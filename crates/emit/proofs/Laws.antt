@@ -97,7 +97,7 @@ use Rattle.rules.specs.Methods.{methodText, thisPointer, methodList}
 use Rattle.rules.specs.Arrays.{baseText}
 use Rattle.rules.specs.Opening.{afterRead, sameIndex, entryOf, body, rank, walked, ruled}
 use Rattle.pen.specs.declared.Pen.{Pen}
-use Rattle.pen.specs.Page.{Page, page, Wrote, pageAfter, idle, writing, step, unreadTrace, last, _⨾_, ending, marking}
+use Rattle.pen.specs.Page.{Page, page, readPen, Wrote, pageAfter, idle, writing, step, unreadTrace, last, _⨾_, ending, marking}
 use Rattle.pen.proofs.Laws.{_▹_, _▸_, wrote-as, wrote-step, wrote-idle, wrote-same, wrote-by, prefix-none}
 use Rattle.context.specs.declared.flags.Call.{Call}
 use Rattle.context.specs.declared.seen.Way.{Way}
@@ -661,7 +661,7 @@ module _ (s : List ℕ) (d : Lent) (call : Call) (o stream sep : List ℕ) (e : 
         r .goes g
         (wrote-same (entries-none (settingsOf call) (tableIn s d) (holding call o) sep between ∙ ap (entriesTrace between) (sym (from-none stream e i l))))
 
-    pub rest-idle : idle (g .pen .stop) ≡ true → Wrote h (entriesTrace first (numbersAt stream (e .start) (e .count))) g
+    pub rest-idle : idle (readPen (g .pen) .stop) ≡ true → Wrote h (entriesTrace first (numbersAt stream (e .start) (e .count))) g
     rest-idle l = r .goes g (wrote-idle l)
 
 pub ruleset walks = (

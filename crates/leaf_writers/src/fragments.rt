@@ -8,7 +8,7 @@ ghost use mathlib.Core.List.{[]};
 ghost use Rattle.wire.specs.Field.{number, pick};
 ghost use Rattle.rules.specs.Types.{comma};
 ghost use Rattle.rules.specs.Text.{levels};
-ghost use Rattle.pen.specs.Page.{page, Wrote, writing, lastSince};
+ghost use Rattle.pen.specs.Page.{readPen, page, Wrote, writing, lastSince};
 ghost use Rattle.context.specs.Context.{settingsOf, levelsOf};
 ghost use Rattle.leaf_writers.specs.Fragments.{staticText, recordText, isSign};
 use crate::attributes::emit_attributes;
@@ -144,7 +144,7 @@ pub fn emit_record(types: &[u8], out: &mut [u8], p: Pen, call: Call, t: TypeData
 
 // The signs of pointers behind a text: whether it ends in a sign is told by the last byte since its start.
 pub fn emit_attributes_since(out: &mut [u8], p: Pen, call: Call, o: Levels, start: usize) -> Pen
-    ensures { λ r. ⌜ Wrote (page (now (out .entry)) p) (writing (levels (settingsOf call) true (isSign (lastSince p start)) (levelsOf o))) (page (now (out .exit)) r) ⌝ }
+    ensures { λ r. ⌜ Wrote (page (now (out .entry)) p) (writing (levels (settingsOf call) true (isSign (lastSince (readPen p) start)) (levelsOf o))) (page (now (out .exit)) r) ⌝ }
 {
     let last = pen::last_since(p, start);
     if last == STAR {

@@ -7,7 +7,6 @@ ghost use Rattle.pen.specs.Page.{page, Wrote, Caught, writing};
 ghost use Rattle.leaf_writers.specs.Marks.{markTrace};
 use crate::numbers::hex;
 use pen::Pen;
-use pen::Stop;
 use streams::refusal::Refusal;
 
 // A number in hexadecimal between two texts.
@@ -47,15 +46,11 @@ pub fn unhandled_scope(out: &mut [u8], p: Pen, kind: u16) -> Pen
 pub fn mark_missing(out: &mut [u8], p: Pen) -> Pen
     ensures { λ r. ⌜ Caught (page (now (out .entry)) p) (λ i. writing (missingMark i)) (page (now (out .exit)) r) ⌝ }
 {
-    let stop = p.stop;
-    match stop {
-        Stop::No => p,
-        Stop::Missing(index) => {
-            let q = pen::resume(p);
-            missing(out, q, index)
-        }
-        Stop::Refused(_) => p,
+    if p.stop == pen::MISSING {
+        let q = pen::resume(p);
+        return missing(out, q, p.detail);
     }
+    p
 }
 
 // What could not be read by itself: its mark, or the refusal.

@@ -25,7 +25,7 @@ use Rattle.interpreter.specs.Trace.{Note, End, done, missing, refused, halted, 
 use Rattle.pen.specs.declared.Pen.{Pen}
 use Rattle.pen.specs.declared.Stop.{Stop}
 use Rattle.pen.specs.declared.Stop.the-variants.{No, Missing, Refused}
-use Rattle.pen.specs.Page.{stopIn, PenRead, readPen, Page, under, page, ended, gone, put, putAt, unlessStopped, ink, stopOf, endAs, finish, pageAfter, Wrote, writing, step, lastSince, resumed, goOn, Caught, idle, opened, last, _⨾_, ending, marking, bytesOf, refusedPen, missedPen, unreadPen, unreadTrace}
+use Rattle.pen.specs.Page.{stopIn, PenRead, readPen, Page, PageRead, under, readPage, page, ended, gone, put, putAt, unlessStopped, ink, stopOf, endAs, finish, pageAfter, Wrote, writing, step, lastSince, resumed, goOn, Caught, idle, opened, last, _⨾_, ending, marking, bytesOf, refusedPen, missedPen, unreadPen, unreadTrace}
 
 -- The two numbers of a pen, read: a refusal's are its own.
 refusal-back : (f : Refusal) → stopIn (numberOf f) (detailOf f) ≡ Refused f
@@ -69,18 +69,18 @@ unfolding put
 put-fits buf p b h l = simp (h, lt-ltb _ _ l)
 
 pub put-stored : (buf out : List ℕ) (p : Pen) (b : ℕ) → out ≡ set buf (p .at) b → p .stop ≡ 0 → p .at < p .limit
-    → page out (record { at = p .at + 1; last = b; limit = p .limit; stop = 0; detail = 0 }) ≡ put (page buf p) b
+    → readPage (page out (record { at = p .at + 1; last = b; limit = p .limit; stop = 0; detail = 0 })) ≡ put (readPage (page buf p)) b
 put-stored buf out p b e h l = rw e (sym (put-fits buf (readPen p) b (stop-none p h) l))
 
 put-full : (buf : List ℕ) (p : PenRead) (b : ℕ) → p .stop ≡ No → p .limit ≤ p .at → put (under buf p) b ≡ under buf (ended (p .limit) NoRoom)
 unfolding put
 put-full buf p b h l = simp (h, le-ltb _ _ l)
 
-pub put-gone : (buf : List ℕ) (p : Pen) (b : ℕ) → p .stop ≡ 0 → p .limit ≤ p .at → page buf (gone (p .limit) NoRoom) ≡ put (page buf p) b
+pub put-gone : (buf : List ℕ) (p : Pen) (b : ℕ) → p .stop ≡ 0 → p .limit ≤ p .at → readPage (page buf (gone (p .limit) NoRoom)) ≡ put (readPage (page buf p)) b
 put-gone buf p b h l = ap (under buf) (read-gone (p .limit) NoRoom) ∙ sym (put-full buf (readPen p) b (stop-none p h) l)
 
 -- a page whose pen has stopped
-abbrev pub Halted : Page → Type 0
+abbrev pub Halted : PageRead → Type 0
 Halted g = idle (g .pen .stop) ≡ true
 
 idle-keeps : {A : Type 0} (x : Stop) (a b : A) → idle x ≡ true → unlessStopped x a b ≡ b
@@ -91,44 +91,44 @@ idle-keeps (Refused f) a b h = refl
 pub stopped-keeps : {A : Type 0} (p : Pen) (a b : A) → (p .stop ≡ 0 → ⊥) → unlessStopped (readPen p .stop) a b ≡ b
 stopped-keeps p a b h = idle-keeps (readPen p .stop) a b (stop-some p h)
 
-pub put-halted : (g : Page) (b : ℕ) → Halted g → put g b ≡ g
+pub put-halted : (g : PageRead) (b : ℕ) → Halted g → put g b ≡ g
 unfolding put
 put-halted g b h = idle-keeps (g .pen .stop) _ _ h
 
-ink-halted : (bs : List ℕ) (g : Page) → Halted g → ink g bs ≡ g
+ink-halted : (bs : List ℕ) (g : PageRead) → Halted g → ink g bs ≡ g
 unfolding ink
 ink-halted [] g h = refl
 ink-halted (b ∷ bs) g h = rw (put-halted g b h) (ink-halted bs g h)
 
-finish-halted : (g : Page) (e : Stop) → Halted g → finish g e ≡ g
+finish-halted : (g : PageRead) (e : Stop) → Halted g → finish g e ≡ g
 finish-halted g e h = ap (under (g .buf)) (idle-keeps (g .pen .stop) _ _ h)
 
-pub run-halted : (g : Page) (t : Trace Refusal) → Halted g → pageAfter g t ≡ g
+pub run-halted : (g : PageRead) (t : Trace Refusal) → Halted g → pageAfter g t ≡ g
 unfolding pageAfter
 run-halted g (tr bs e ns c) h = rw (ink-halted bs g h) (finish-halted g (stopOf e) h)
 
 -- a text and another after it
-pub ink-append : (a : List ℕ) (g : Page) (b : List ℕ) → ink (ink g a) b ≡ ink g (a ++ b)
+pub ink-append : (a : List ℕ) (g : PageRead) (b : List ℕ) → ink (ink g a) b ≡ ink g (a ++ b)
 unfolding ink
 ink-append [] g b = refl
 ink-append (x ∷ a) g b = ink-append a (put g x) b
 
-pub ink-nil : (g : Page) → ink g [] ≡ g
+pub ink-nil : (g : PageRead) → ink g [] ≡ g
 unfolding ink
 ink-nil g = refl
 
-pub ink-one : (g : Page) (b : ℕ) → ink g (b ∷ []) ≡ put g b
+pub ink-one : (g : PageRead) (b : ℕ) → ink g (b ∷ []) ≡ put g b
 unfolding ink
 ink-one g b = refl
 
-pub ink-more : (g : Page) (s : List ℕ) (i : ℕ) → i < length s → ink g (take (i + 1) s) ≡ put (ink g (take i s)) (getD s i 0)
+pub ink-more : (g : PageRead) (s : List ℕ) (i : ℕ) → i < length s → ink g (take (i + 1) s) ≡ put (ink g (take i s)) (getD s i 0)
 ink-more g s i h = rw (add-one, take-suc s i 0, ← ink-append, ink-one)
 
 -- a loop's turn that writes the next byte of a text
-pub ink-turn : (g h k : Page) (s : List ℕ) (i : ℕ) → h ≡ ink g (take i s) → k ≡ put h (getD s i 0) → i < length s → k ≡ ink g (take (i + 1) s)
+pub ink-turn : (g h k : PageRead) (s : List ℕ) (i : ℕ) → h ≡ ink g (take i s) → k ≡ put h (getD s i 0) → i < length s → k ≡ ink g (take (i + 1) s)
 ink-turn g h k s i e f l = cc (ink-more g s i l)
 
-pub ink-all : (g h : Page) (s : List ℕ) (i : ℕ) → h ≡ ink g (take i s) → length s ≤ i → h ≡ ink g s
+pub ink-all : (g h : PageRead) (s : List ℕ) (i : ℕ) → h ≡ ink g (take i s) → length s ≤ i → h ≡ ink g s
 ink-all g h s i e l = rw (take-all i s l) at e
 
 finish-no-at : (x : Stop) (b : List ℕ) (at l lim : ℕ) → let g = under b (record { at = at; last = l; limit = lim; stop = x }) in finish g No ≡ g
@@ -136,18 +136,18 @@ finish-no-at No b at l lim = refl
 finish-no-at (Missing i) b at l lim = refl
 finish-no-at (Refused f) b at l lim = refl
 
-finish-no : (g : Page) → finish g No ≡ g
+finish-no : (g : PageRead) → finish g No ≡ g
 finish-no g = finish-no-at (g .pen .stop) (g .buf) (g .pen .at) (g .pen .last) (g .pen .limit)
 
-run-done : (g : Page) (bs : List ℕ) (ns : List Note) (c : Count) → pageAfter g (tr bs done ns c) ≡ ink g bs
+run-done : (g : PageRead) (bs : List ℕ) (ns : List Note) (c : Count) → pageAfter g (tr bs done ns c) ≡ ink g bs
 unfolding pageAfter stopOf
 run-done g bs ns c = finish-no (ink g bs)
 
-pub run-say : (g : Page) (bs : List ℕ) → pageAfter g (writing bs) ≡ ink g bs
+pub run-say : (g : PageRead) (bs : List ℕ) → pageAfter g (writing bs) ≡ ink g bs
 run-say g bs = run-done g bs [] (count 0 0)
 
 -- what is written before a trace
-run-prefix : (g : Page) (bs : List ℕ) (ns : List Note) (c : Count) (t : Trace Refusal) → pageAfter g (prefix bs ns c t) ≡ pageAfter (ink g bs) t
+run-prefix : (g : PageRead) (bs : List ℕ) (ns : List Note) (c : Count) (t : Trace Refusal) → pageAfter g (prefix bs ns c t) ≡ pageAfter (ink g bs) t
 unfolding pageAfter
 run-prefix g bs ns c (tr cs e ms d) = rw ink-append
 
@@ -158,10 +158,10 @@ finish-halts-at No b at l lim (Refused f) h = refl
 finish-halts-at (Missing i) b at l lim e h = refl
 finish-halts-at (Refused f) b at l lim e h = refl
 
-finish-halts : (g : Page) (e : Stop) → idle e ≡ true → Halted (finish g e)
+finish-halts : (g : PageRead) (e : Stop) → idle e ≡ true → Halted (finish g e)
 finish-halts g e h = finish-halts-at (g .pen .stop) (g .buf) (g .pen .at) (g .pen .last) (g .pen .limit) e h
 
-run-stays : (g : Page) (bs : List ℕ) (e : End Refusal) (ns : List Note) (c : Count) (u : Trace Refusal) → idle (stopOf e) ≡ true → pageAfter (pageAfter g (tr bs e ns c)) u ≡ pageAfter g (tr bs e ns c)
+run-stays : (g : PageRead) (bs : List ℕ) (e : End Refusal) (ns : List Note) (c : Count) (u : Trace Refusal) → idle (stopOf e) ≡ true → pageAfter (pageAfter g (tr bs e ns c)) u ≡ pageAfter g (tr bs e ns c)
 unfolding pageAfter
 run-stays g bs e ns c u h = run-halted _ u (finish-halts (ink g bs) (stopOf e) h)
 
@@ -176,7 +176,7 @@ idle-halted (deep i) = refl
 idle-halted (long i) = refl
 
 -- a trace and what follows it
-pub run-then : (g : Page) (s : Trace Refusal) (k : List ℕ → Trace Refusal) → pageAfter (pageAfter g s) (k (bytesOf s)) ≡ pageAfter g (then s k)
+pub run-then : (g : PageRead) (s : Trace Refusal) (k : List ℕ → Trace Refusal) → pageAfter (pageAfter g s) (k (bytesOf s)) ≡ pageAfter g (then s k)
 unfolding stopOf
 run-then g (tr bs done ns c) k = ap (λ h. pageAfter h (k bs)) (run-done g bs ns c) ∙ sym (run-prefix g bs ns c (k bs))
 run-then g (tr bs (missing i) ns c) k = run-stays g bs (missing i) ns c (k bs) refl
@@ -187,7 +187,7 @@ run-then g (tr bs unfinished ns c) k = run-stays g bs unfinished ns c (k bs) ref
 -- one writing after another
 infixr 30 _▹_
 pub _▹_ : {g h k : Page} {t u : Trace Refusal} → Wrote g t h → Wrote h u k → Wrote g (then t (λ _. u)) k
-_▹_ {g} {h} {k} {t} {u} e f = record { is = cc (run-then g t (λ _. u), e .is, f .is) }
+_▹_ {g} {h} {k} {t} {u} e f = record { is = cc (run-then (readPage g) t (λ _. u), e .is, f .is) }
 
 -- the same writing, by another name for its trace
 pub wrote-as : {g h : Page} {t u : Trace Refusal} → t ≡ u → Wrote g t h → Wrote g u h
@@ -198,21 +198,21 @@ wrote-by e f = wrote-as f e
 
 -- nothing is written
 pub wrote-none : {g : Page} → Wrote g (writing []) g
-wrote-none {g} = record { is = sym (run-say g [] ∙ ink-nil g) }
+wrote-none {g} = record { is = sym (run-say (readPage g) [] ∙ ink-nil (readPage g)) }
 
 pub wrote-same : {g : Page} {u : Trace Refusal} → writing [] ≡ u → Wrote g u g
 wrote-same {g} {u} e = wrote-as e wrote-none
 
 -- a stopped pen writes nothing, whatever it is asked
-pub wrote-idle : {g : Page} {t : Trace Refusal} → Halted g → Wrote g t g
-wrote-idle {g} {t} h = record { is = sym (run-halted g t h) }
+pub wrote-idle : {g : Page} {t : Trace Refusal} → Halted (readPage g) → Wrote g t g
+wrote-idle {g} {t} h = record { is = sym (run-halted (readPage g) t h) }
 
 -- what stops a pen: an end with nothing written before it
-finish-refused : (b : List ℕ) (p : Pen) (f : Refusal) → page b (refusedPen p f) ≡ finish (page b p) (Refused f)
+finish-refused : (b : List ℕ) (p : Pen) (f : Refusal) → readPage (page b (refusedPen p f)) ≡ finish (readPage (page b p)) (Refused f)
 unfolding refusedPen
 finish-refused b p f = by (readPen p .stop) refl
   where
-    by : (x : Stop) → readPen p .stop ≡ x → page b (unlessStopped x (gone (p .limit) f) p) ≡ under b (unlessStopped x (ended (p .limit) f) (readPen p))
+    by : (x : Stop) → readPen p .stop ≡ x → readPage (page b (unlessStopped x (gone (p .limit) f) p)) ≡ under b (unlessStopped x (ended (p .limit) f) (readPen p))
     by No e = ap (under b) (read-gone (p .limit) f)
     by (Missing i) e = refl
     by (Refused g) e = refl
@@ -221,12 +221,12 @@ pub wrote-stop : (b : List ℕ) (p q : Pen) (e : End Refusal) (n : ℕ) (f : Ref
 unfolding pageAfter ink
 wrote-stop b p q e n f h k = record { is = rw (h, k) (finish-refused b p f) }
 
-finish-missing : (b : List ℕ) (p : Pen) (i : ℕ) → page b (missedPen p i) ≡ finish (page b p) (Missing i)
+finish-missing : (b : List ℕ) (p : Pen) (i : ℕ) → readPage (page b (missedPen p i)) ≡ finish (readPage (page b p)) (Missing i)
 unfolding missedPen
 finish-missing b p i = by (readPen p .stop) refl
   where
     by : (x : Stop) → readPen p .stop ≡ x
-        → page b (unlessStopped x (record { at = p .at; last = p .last; limit = p .limit; stop = 17; detail = i }) p) ≡ under b (unlessStopped x (endAs (readPen p) (Missing i)) (readPen p))
+        → readPage (page b (unlessStopped x (record { at = p .at; last = p .last; limit = p .limit; stop = 17; detail = i }) p)) ≡ under b (unlessStopped x (endAs (readPen p) (Missing i)) (readPen p))
     by No e = refl
     by (Missing j) e = refl
     by (Refused g) e = refl
@@ -238,12 +238,12 @@ wrote-missing b p q i e = record { is = rw e (finish-missing b p i) }
 -- taking up an index without opening it changes nothing
 pub wrote-step : {g : Page} → Wrote g step g
 unfolding ink step
-wrote-step {g} = record { is = sym (run-done g [] [] (count 0 1)) }
+wrote-step {g} = record { is = sym (run-done (readPage g) [] [] (count 0 1)) }
 
 -- nor does opening it
 pub wrote-opened : (b : List ℕ) (p q : Pen) → q ≡ p → Wrote (page b p) opened (page b q)
 unfolding ink opened
-wrote-opened b p q e = record { is = ap (page b) e ∙ sym (run-done (page b p) [] [] (count 1 1)) }
+wrote-opened b p q e = record { is = ap (λ (x : Pen). readPage (page b x)) e ∙ sym (run-done (readPage (page b p)) [] [] (count 1 1)) }
 
 -- a pen that has not stopped, refused
 pub refused-alive : (p : Pen) (f : Refusal) → idle (readPen p .stop) ≡ false → refusedPen p f ≡ gone (p .limit) f
@@ -293,7 +293,7 @@ not-number k ks f h n =
     ne-eqb (numberOf f) (suc k) (λ e. let p = number-place f in let q : tagOf the-type f ≡ k = omega arith in h (subst (OneOf ks) q n))
 
 -- the last byte written
-Ended : Page → ℕ → ℕ → Type 0
+Ended : PageRead → ℕ → ℕ → Type 0
 Ended g start b = Halted g ⊎ ((lastSince (g .pen) start ≡ b) × (start ≤ g .pen .at))
 
 ends-put-no : (b : List ℕ) (p : PenRead) (v start : ℕ) → p .stop ≡ No → start ≤ p .at → Dec (p .at < p .limit) → Ended (put (under b p) v) start v
@@ -307,28 +307,28 @@ ends-put-at No b at l lim v start h = ends-put-no b (record { at = at; last = l;
 ends-put-at (Missing i) b at l lim v start h = inl refl
 ends-put-at (Refused f) b at l lim v start h = inl refl
 
-ends-ink : (bs : List ℕ) (g : Page) (start x : ℕ) → Ended g start x → Ended (ink g bs) start (last x bs)
+ends-ink : (bs : List ℕ) (g : PageRead) (start x : ℕ) → Ended g start x → Ended (ink g bs) start (last x bs)
 unfolding ink last Ended
 ends-ink [] g start x h = h
 ends-ink (b ∷ bs) g start x (inl h) = ends-ink bs (put g b) start b (inl (rw (put-halted g b h) h))
 ends-ink (b ∷ bs) g start x (inr h) = ends-ink bs (put g b) start b (ends-put-at (g .pen .stop) (g .buf) (g .pen .at) (g .pen .last) (g .pen .limit) b start (h .1))
 
-fresh : (g : Page) → Ended g (g .pen .at) 0
+fresh : (g : PageRead) → Ended g (g .pen .at) 0
 unfolding Ended lastSince
 fresh g = inr (simp (le-leb (g .pen .at) (g .pen .at) (omega arith)), omega arith)
 
-Lasts : Page → ℕ → ℕ → Type 0
+Lasts : PageRead → ℕ → ℕ → Type 0
 Lasts g start x = Halted g ⊎ (lastSince (g .pen) start ≡ x)
 
-lasts : (g : Page) (start x : ℕ) → Ended g start x → Lasts g start x
+lasts : (g : PageRead) (start x : ℕ) → Ended g start x → Lasts g start x
 unfolding Ended Lasts
 lasts g start x (inl h) = inl h
 lasts g start x (inr h) = inr (h .0)
 
-ends-done : (g : Page) (bs : List ℕ) (ns : List Note) (c : Count) → Lasts (pageAfter g (tr bs done ns c)) (g .pen .at) (last 0 bs)
+ends-done : (g : PageRead) (bs : List ℕ) (ns : List Note) (c : Count) → Lasts (pageAfter g (tr bs done ns c)) (g .pen .at) (last 0 bs)
 ends-done g bs ns c = rw (run-done g bs ns c) (lasts (ink g bs) (g .pen .at) (last 0 bs) (ends-ink bs g (g .pen .at) 0 (fresh g)))
 
-ends-run : (g : Page) (t : Trace Refusal) → Lasts (pageAfter g t) (g .pen .at) (last 0 (bytesOf t))
+ends-run : (g : PageRead) (t : Trace Refusal) → Lasts (pageAfter g t) (g .pen .at) (last 0 (bytesOf t))
 unfolding pageAfter Lasts stopOf
 ends-run g (tr bs done ns c) = ends-done g bs ns c
 ends-run g (tr bs (missing i) ns c) = inl (finish-halts (ink g bs) (Missing i) refl)
@@ -337,23 +337,23 @@ ends-run g (tr bs (halted x) ns c) = inl (finish-halts (ink g bs) (stopOf (halte
 ends-run g (tr bs unfinished ns c) = inl (finish-halts (ink g bs) (stopOf unfinished) refl)
 
 -- a writing that goes by the last byte of the one before it
-pub wrote-after : {g h k : Page} {t : Trace Refusal} (f : ℕ → Trace Refusal) (start : ℕ) → start ≡ g .pen .at → Wrote g t h → Wrote h (f (lastSince (h .pen) start)) k
+pub wrote-after : {g h k : Page} {t : Trace Refusal} (f : ℕ → Trace Refusal) (start : ℕ) → start ≡ g .pen .at → Wrote g t h → Wrote h (f (lastSince (readPen (h .pen)) start)) k
     → Wrote g (then t (λ bs. f (last 0 bs))) k
 unfolding Lasts
-wrote-after {g} {h} {k} {t} f start s e w = record { is = go (ends-run g t) ∙ run-then g t (λ bs. f (last 0 bs)) }
+wrote-after {g} {h} {k} {t} f start s e w = record { is = go (ends-run (readPage g) t) ∙ run-then (readPage g) t (λ bs. f (last 0 bs)) }
   where
-    from : k ≡ pageAfter (pageAfter g t) (f (lastSince (pageAfter g t .pen) (g .pen .at)))
+    from : readPage k ≡ pageAfter (pageAfter (readPage g) t) (f (lastSince (pageAfter (readPage g) t .pen) (g .pen .at)))
     from = rw (← (e .is), ← s) (w .is)
 
-    go : Lasts (pageAfter g t) (g .pen .at) (last 0 (bytesOf t)) → k ≡ pageAfter (pageAfter g t) (f (last 0 (bytesOf t)))
+    go : Lasts (pageAfter (readPage g) t) (g .pen .at) (last 0 (bytesOf t)) → readPage k ≡ pageAfter (pageAfter (readPage g) t) (f (last 0 (bytesOf t)))
     go (inl x) = from ∙ run-halted _ _ x ∙ sym (run-halted _ _ x)
     go (inr x) = rw x at from
 
 -- A missing index that is caught. A pen that had not stopped is stopped by a text only where that has no room.
-Kept : Page → Type 0
+Kept : PageRead → Type 0
 Kept g = (g .pen .stop ≡ No) ⊎ (g .pen .stop ≡ Refused NoRoom)
 
-kept-pick : (b : Bool) (g h : Page) → Kept g → Kept h → Kept (pick b g h)
+kept-pick : (b : Bool) (g h : PageRead) → Kept g → Kept h → Kept (pick b g h)
 kept-pick true g h x y = x
 kept-pick false g h x y = y
 
@@ -363,12 +363,12 @@ kept-put-at No b at l lim v h = kept-pick (ltb at lim) _ _ (inl refl) (inr refl)
 kept-put-at (Missing i) b at l lim v h = h
 kept-put-at (Refused f) b at l lim v h = h
 
-kept-ink : (bs : List ℕ) (g : Page) → Kept g → Kept (ink g bs)
+kept-ink : (bs : List ℕ) (g : PageRead) → Kept g → Kept (ink g bs)
 unfolding ink
 kept-ink [] g h = h
 kept-ink (b ∷ bs) g h = kept-ink bs (put g b) (kept-put-at (g .pen .stop) (g .buf) (g .pen .at) (g .pen .last) (g .pen .limit) b h)
 
-caught-kept-at : (x : Stop) (g : Page) (u : ℕ → Trace Refusal) → g .pen .stop ≡ x → Kept g → goOn x u g ≡ g
+caught-kept-at : (x : Stop) (g : PageRead) (u : ℕ → Trace Refusal) → g .pen .stop ≡ x → Kept g → goOn x u g ≡ g
 unfolding Kept
 caught-kept-at No g u e h = refl
 caught-kept-at (Missing i) g u e (inl h) = absurd (let z : _≡_ {A = ℕ} 0 1 = cc in omega arith)
@@ -397,7 +397,7 @@ halted-as (again i) = (CircularTypeDefinition i, refl)
 halted-as (deep i) = (TooManyOpen i, refl)
 halted-as (long i) = (ChainTooLong i, refl)
 
-module _ (u : ℕ → Trace Refusal) (g : Page) (alive : g .pen .stop ≡ No) where
+module _ (u : ℕ → Trace Refusal) (g : PageRead) (alive : g .pen .stop ≡ No) where
   caught-ended : (bs : List ℕ) (e : End Refusal) (ns : List Note) (c : Count) (f : Refusal) → stopOf e ≡ Refused f → goOn (pageAfter g (tr bs e ns c) .pen .stop) u (pageAfter g (tr bs e ns c)) ≡ pageAfter g (tr bs e ns c)
   unfolding pageAfter Kept
   caught-ended bs e ns c f n =
@@ -418,8 +418,8 @@ module _ (u : ℕ → Trace Refusal) (g : Page) (alive : g .pen .stop ≡ No) wh
   run-caught (tr bs (halted x) ns c) = caught-ended bs (halted x) ns c (halted-as x .0) (halted-as x .1)
   run-caught (tr bs unfinished ns c) = caught-ended bs unfinished ns c NoRoom refl
 
-pub wrote-caught : {g h k : Page} {t : Trace Refusal} {u : ℕ → Trace Refusal} → g .pen .stop ≡ No → Wrote g t h → Caught h u k → Wrote g (caught t u) k
-wrote-caught {g} {h} {k} {t} {u} a e f = record { is = rw (e .is) at (f .is) ∙ run-caught u g a t }
+wrote-caught : {g h k : Page} {t : Trace Refusal} {u : ℕ → Trace Refusal} → readPage g .pen .stop ≡ No → Wrote g t h → Caught h u k → Wrote g (caught t u) k
+wrote-caught {g} {h} {k} {t} {u} a e f = record { is = f .is ∙ ap (λ (x : PageRead). goOn (x .pen .stop) u x) (e .is) ∙ run-caught u (readPage g) a t }
 
 pub prefix-none : (t : Trace Refusal) → prefix [] [] (count 0 0) t ≡ t
 prefix-none (tr bs e ns c) = simp zero-add
@@ -435,24 +435,32 @@ put-length-at No b at l lim v = by (ltb at lim)
 put-length-at (Missing i) b at l lim v = refl
 put-length-at (Refused f) b at l lim v = refl
 
-ink-length : (bs : List ℕ) (g : Page) → length (ink g bs .buf) ≡ length (g .buf)
+ink-length : (bs : List ℕ) (g : PageRead) → length (ink g bs .buf) ≡ length (g .buf)
 unfolding ink
 ink-length [] g = refl
 ink-length (b ∷ bs) g = ink-length bs (put g b) ∙ put-length-at (g .pen .stop) (g .buf) (g .pen .at) (g .pen .last) (g .pen .limit) b
 
-run-length : (g : Page) (t : Trace Refusal) → length (pageAfter g t .buf) ≡ length (g .buf)
+run-length : (g : PageRead) (t : Trace Refusal) → length (pageAfter g t .buf) ≡ length (g .buf)
 unfolding pageAfter
 run-length g (tr bs e ns c) = ink-length bs g
 
 pub wrote-length : {g h : Page} {t : Trace Refusal} → Wrote g t h → length (h .buf) ≡ length (g .buf)
-wrote-length {g} {h} {t} w = ap (λ (x : Page). length (x .buf)) (w .is) ∙ run-length g t
+wrote-length {g} {h} {t} w = ap (λ (x : PageRead). length (x .buf)) (w .is) ∙ run-length (readPage g) t
 
-pub wrote-byte : {g h : Page} {b : ℕ} → h ≡ put g b → Wrote g (writing (b ∷ [])) h
-wrote-byte {g} {h} {b} e = record { is = e ∙ sym (run-say g (b ∷ []) ∙ ink-one g b) }
+pub wrote-byte : {g h : Page} {b : ℕ} → readPage h ≡ put (readPage g) b → Wrote g (writing (b ∷ [])) h
+wrote-byte {g} {h} {b} e = record { is = e ∙ sym (run-say (readPage g) (b ∷ []) ∙ ink-one (readPage g) b) }
 
--- what catches, by cases
-pub caught-goes : {b : List ℕ} (p : Pen) {q : Pen} {u : ℕ → Trace Refusal} {i : ℕ} {k : Page} → readPen p .stop ≡ Missing i → q ≡ resumed p → Wrote (page b q) (u i) k → Caught (page b p) u k
-caught-goes {b} p {q} {u} {i} {k} e f w = record { is = rw e (rw f at (w .is)) }
+-- what catches, by the first of the pen's two numbers
+pub caught-goes : {b : List ℕ} (p : Pen) {q : Pen} {u : ℕ → Trace Refusal} {k : Page} → p .stop ≡ 17 → q ≡ resumed p → Wrote (page b q) (u (p .detail)) k → Caught (page b p) u k
+caught-goes {b} p {q} {u} {k} e f w = record { is = rw e (rw f at (w .is)) }
+
+pub caught-none : (b : List ℕ) (p : Pen) {u : ℕ → Trace Refusal} → (p .stop ≡ 17 → ⊥) → Caught (page b p) u (page b p)
+caught-none b p {u} h = record { is = by (eqb (p .stop) 0) (eqb (p .stop) 17) (ne-eqb (p .stop) 17 h) (readPage (page b p)) }
+  where
+    by : (x y : Bool) → y ≡ false → (g : PageRead) → g ≡ goOn (pick x No (pick y (Missing (p .detail)) (Refused (refusalOf (p .stop) (p .detail))))) u g
+    by true y e g = refl
+    by false false e g = refl
+    by false true e g = absurd (let z : _≡_ {A = ℕ} 0 1 = cc in omega arith)
 
 -- the same laws over the shut traces
 alive : (x : Stop) → idle x ≡ false → x ≡ No
@@ -465,13 +473,13 @@ pub _▸_ : {g h k : Page} {t u : Trace Refusal} → Wrote g t h → Wrote h u k
 unfolding _⨾_
 e ▸ f = e ▹ f
 
-pub wrote-ending : {g h k : Page} {t : Trace Refusal} (f : ℕ → List ℕ) (start : ℕ) → start ≡ g .pen .at → Wrote g t h → Wrote h (writing (f (lastSince (h .pen) start))) k → Wrote g (ending t f) k
+pub wrote-ending : {g h k : Page} {t : Trace Refusal} (f : ℕ → List ℕ) (start : ℕ) → start ≡ g .pen .at → Wrote g t h → Wrote h (writing (f (lastSince (readPen (h .pen)) start))) k → Wrote g (ending t f) k
 unfolding ending
 wrote-ending f start s e w = wrote-after (λ b. writing (f b)) start s e w
 
-pub wrote-marking : {g h k : Page} {t : Trace Refusal} {u : ℕ → Trace Refusal} → idle (g .pen .stop) ≡ false → Wrote g t h → Caught h u k → Wrote g (marking t u) k
+pub wrote-marking : {g h k : Page} {t : Trace Refusal} {u : ℕ → Trace Refusal} → idle (readPen (g .pen) .stop) ≡ false → Wrote g t h → Caught h u k → Wrote g (marking t u) k
 unfolding marking
-wrote-marking {g} a e f = wrote-caught (alive (g .pen .stop) a) e f
+wrote-marking {g} a e f = wrote-caught (alive (readPage g .pen .stop) a) e f
 
 -- A whole trace, from the start of a buffer.
 ink-fits : (bs buf : List ℕ) (at l lim : ℕ) → at + length bs ≤ lim
@@ -534,11 +542,11 @@ module _ (buf ys s : List ℕ) (p : Pen) (k : ℕ) where
       whole : take (p .at) buf ++ (ys ++ drop k (drop (p .at) buf)) ≡ sets buf (p .at) s
       whole = rw (e, f, drop-drop, ← append-assoc) (sym (sets-eq s buf (p .at) (omega (arith, m .fits, m .within))))
 
-      inked : pageAfter (page buf p) (writing s) ≡ under (sets buf (p .at) s) q
-      inked = run-say (page buf p) s ∙ ap (λ x. ink (under buf (record { at = p .at; last = p .last; limit = p .limit; stop = x })) s) (m .goes) ∙ ink-fits s buf (p .at) (p .last) (p .limit) (m .fits) ∙ rw (last-at (p .last) s (length s - 1) (omega arith))
+      inked : pageAfter (readPage (page buf p)) (writing s) ≡ under (sets buf (p .at) s) q
+      inked = run-say (readPage (page buf p)) s ∙ ap (λ x. ink (under buf (record { at = p .at; last = p .last; limit = p .limit; stop = x })) s) (m .goes) ∙ ink-fits s buf (p .at) (p .last) (p .limit) (m .fits) ∙ rw (last-at (p .last) s (length s - 1) (omega arith))
 
 -- what a text that fits leaves
-pub record Ran (buf : List ℕ) (limit : ℕ) (bs : List ℕ) (b : List ℕ) (q : PenRead) : Type 0 where
+pub record Ran (buf : List ℕ) (limit : ℕ) (bs : List ℕ) (b : List ℕ) (q : Pen) : Type 0 where
   pub at : q .at ≡ length bs
   pub buffer : b ≡ sets buf 0 bs
   pub room : length bs ≤ limit
@@ -548,34 +556,34 @@ end-stop p No e = e
 end-stop p (Missing i) e = refl
 end-stop p (Refused f) e = refl
 
-module _ (buf : List ℕ) (limit : ℕ) (bs : List ℕ) (e : End Refusal) (ns : List Note) (c : Count) (b : List ℕ) (q : PenRead) where
+module _ (buf : List ℕ) (limit : ℕ) (bs : List ℕ) (e : End Refusal) (ns : List Note) (c : Count) (b : List ℕ) (q : Pen) where
   ran : length bs ≤ limit → pageAfter (under buf (record { at = 0; last = 0; limit = limit; stop = No })) (tr bs e ns c)
       ≡ under (sets buf 0 bs) (endAs (record { at = 0 + length bs; last = last 0 bs; limit = limit; stop = No }) (stopOf e))
   unfolding pageAfter
   ran h = rw (ink-fits bs buf 0 0 limit (omega arith)) refl
 
-  pub ran-fits : length bs ≤ limit → Wrote (under buf (record { at = 0; last = 0; limit = limit; stop = No })) (tr bs e ns c) (under b q)
-      → (q .stop ≡ stopOf e) × (q .stop ≡ No → Ran buf limit bs b q)
+  pub ran-fits : length bs ≤ limit → Wrote (page buf (record { at = 0; last = 0; limit = limit; stop = 0; detail = 0 })) (tr bs e ns c) (page b q)
+      → (readPen q .stop ≡ stopOf e) × (readPen q .stop ≡ No → Ran buf limit bs b q)
   ran-fits h w = (stops, λ n. whole (stopOf e) refl (sym stops ∙ n))
     where
       p : PenRead
       p = record { at = 0 + length bs; last = last 0 bs; limit = limit; stop = No }
 
-      is : under b q ≡ under (sets buf 0 bs) (endAs p (stopOf e))
+      is : readPage (page b q) ≡ under (sets buf 0 bs) (endAs p (stopOf e))
       is = w .is ∙ ran h
 
-      stops : q .stop ≡ stopOf e
-      stops = ap (λ (g : Page). g .pen .stop) is ∙ end-stop p (stopOf e) refl
+      stops : readPen q .stop ≡ stopOf e
+      stops = ap (λ (g : PageRead). g .pen .stop) is ∙ end-stop p (stopOf e) refl
 
       whole : (x : Stop) → stopOf e ≡ x → x ≡ No → Ran buf limit bs b q
       whole x y z =
-          let k : under b q ≡ under (sets buf 0 bs) p = is ∙ ap (λ x. under (sets buf 0 bs) (endAs p x)) (y ∙ z) in
-          record { at = ap (λ (g : Page). g .pen .at) k ∙ zero-add (length bs); buffer = ap (λ (g : Page). g .buf) k; room = h }
+          let k : readPage (page b q) ≡ under (sets buf 0 bs) p = is ∙ ap (λ x. under (sets buf 0 bs) (endAs p x)) (y ∙ z) in
+          record { at = ap (λ (g : PageRead). g .pen .at) k ∙ zero-add (length bs); buffer = ap (λ (g : PageRead). g .buf) k; room = h }
 
-  pub ran-over : limit < length bs → Wrote (under buf (record { at = 0; last = 0; limit = limit; stop = No })) (tr bs e ns c) (under b q) → q .stop ≡ Refused NoRoom
+  pub ran-over : limit < length bs → Wrote (page buf (record { at = 0; last = 0; limit = limit; stop = 0; detail = 0 })) (tr bs e ns c) (page b q) → readPen q .stop ≡ Refused NoRoom
   unfolding pageAfter
   ran-over h w =
       let g = under buf (record { at = 0; last = 0; limit = limit; stop = No }) in
       let s : ink g bs .pen .stop ≡ Refused NoRoom = ink-over bs buf 0 0 limit (omega arith) (omega arith) in
       let k : Halted (ink g bs) = rw s refl in
-      ap (λ (g : Page). g .pen .stop) (w .is) ∙ ap (λ (g : Page). g .pen .stop) (finish-halted (ink g bs) (stopOf e) k) ∙ s
+      ap (λ (g : PageRead). g .pen .stop) (w .is) ∙ ap (λ (g : PageRead). g .pen .stop) (finish-halted (ink g bs) (stopOf e) k) ∙ s

@@ -30,13 +30,21 @@ readPen p = record { at = p .at; last = p .last; limit = p .limit; stop = stopIn
 
 pub record Page : Type 0 where
   pub buf : List ℕ
-  pub pen : PenRead
-
-abbrev pub under : List ℕ → PenRead → Page
-under b p = record { buf = b; pen = p }
+  pub pen : Pen
 
 abbrev pub page : List ℕ → Pen → Page
-page b p = under b (readPen p)
+page b p = record { buf = b; pen = p }
+
+-- a page, read
+pub record PageRead : Type 0 where
+  pub buf : List ℕ
+  pub pen : PenRead
+
+abbrev pub under : List ℕ → PenRead → PageRead
+under b p = record { buf = b; pen = p }
+
+abbrev pub readPage : Page → PageRead
+readPage g = under (g .buf) (readPen (g .pen))
 
 -- a pen that was refused keeps nothing but its limit
 abbrev pub ended : ℕ → Refusal → PenRead
@@ -46,7 +54,7 @@ abbrev pub gone : ℕ → Refusal → Pen
 gone limit f = record { at = 0; last = 0; limit = limit; stop = numberOf f; detail = detailOf f }
 
 -- one byte at a place: where the limit is reached, refusal 15. (Past the end of the buffer `set` changes nothing.)
-abbrev pub putAt : List ℕ → PenRead → ℕ → Page
+abbrev pub putAt : List ℕ → PenRead → ℕ → PageRead
 putAt buf p b =
     pick (ltb (p .at) (p .limit))
     (under (set buf (p .at) b) (record { at = p .at + 1; last = b; limit = p .limit; stop = No }))
@@ -58,11 +66,11 @@ unlessStopped (Missing i) g h = h
 unlessStopped (Refused f) g h = h
 
 -- one byte more, unless the pen has stopped
-unfoldable pub put : Page → ℕ → Page
+unfoldable pub put : PageRead → ℕ → PageRead
 put g b = unlessStopped (g .pen .stop) (putAt (g .buf) (g .pen) b) g
 
 -- the bytes of a text
-unfoldable pub ink : Page → List ℕ → Page
+unfoldable pub ink : PageRead → List ℕ → PageRead
 ink g [] = g
 ink g (b ∷ bs) = ink (put g b) bs
 
@@ -82,15 +90,15 @@ endAs p (Missing i) = record { at = p .at; last = p .last; limit = p .limit; sto
 endAs p (Refused f) = ended (p .limit) f
 
 -- a pen that has not stopped ends as e says
-abbrev pub finish : Page → Stop → Page
+abbrev pub finish : PageRead → Stop → PageRead
 finish g e = under (g .buf) (unlessStopped (g .pen .stop) (endAs (g .pen) e) (g .pen))
 
-unfoldable pub pageAfter : Page → Trace Refusal → Page
+unfoldable pub pageAfter : PageRead → Trace Refusal → PageRead
 pageAfter g (tr bs e ns c) = finish (ink g bs) (stopOf e)
 
 -- the page h is what the trace t makes of the page g
 pub record Wrote (g : Page) (t : Trace Refusal) (h : Page) : Type 0 where
-  pub is : h ≡ pageAfter g t
+  pub is : readPage h ≡ pageAfter (readPage g) t
 
 -- A trace that writes bytes, and one that takes up an index without opening it.
 abbrev pub writing : List ℕ → Trace Refusal
@@ -108,13 +116,13 @@ abbrev pub resumed : Pen → Pen
 resumed p = record { at = p .at; last = p .last; limit = p .limit; stop = 0; detail = 0 }
 
 -- where an index was missing, u goes on
-abbrev pub goOn : Stop → (ℕ → Trace Refusal) → Page → Page
+abbrev pub goOn : Stop → (ℕ → Trace Refusal) → PageRead → PageRead
 goOn No u g = g
 goOn (Missing i) u g = pageAfter (under (g .buf) (record { at = g .pen .at; last = g .pen .last; limit = g .pen .limit; stop = No })) (u i)
 goOn (Refused f) u g = g
 
 pub record Caught (g : Page) (u : ℕ → Trace Refusal) (h : Page) : Type 0 where
-  pub is : h ≡ goOn (g .pen .stop) u g
+  pub is : readPage h ≡ goOn (readPage g .pen .stop) u (readPage g)
 
 -- whether a pen has stopped
 abbrev pub idle : Stop → Bool

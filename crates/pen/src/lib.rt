@@ -7,7 +7,7 @@ ghost use lib.Dec.{leb};
 ghost use lib.ListN.{length, set};
 ghost use Rattle.wire.specs.Field.{pick};
 ghost use Rattle.interpreter.specs.Trace.{tr, refused, halted, long, count};
-ghost use Rattle.pen.specs.Page.{readPen, page, put, unlessStopped, Wrote, lastSince, resumed, refusedPen, missedPen, unreadPen, writing, idle, unreadTrace};
+ghost use Rattle.pen.specs.Page.{readPen, page, readPage, put, unlessStopped, Wrote, lastSince, resumed, refusedPen, missedPen, unreadPen, writing, idle, unreadTrace};
 use streams::refusal::Refusal;
 
 // How a pen has stopped.
@@ -17,12 +17,15 @@ pub enum Stop {
     Refused(Refusal),
 }
 
+// What no refusal has as its number: an index is missing, and the text that is being written ends.
+pub const MISSING: u32 = 17;
+
 pub struct Pen {
     pub at: usize,
     // A byte in the width of its neighbours: a struct without gaps is copied by whole words.
     pub last: u64,
     pub limit: usize,
-    // Whether it has stopped, as two numbers for the same reason: 0; the number of a refusal; or 17, where an index is missing. Then the detail.
+    // Whether it has stopped, as two numbers for the same reason: 0, the number of a refusal, or `MISSING`; then the detail.
     pub stop: u32,
     pub detail: u32,
 }
@@ -79,7 +82,7 @@ fn wide(b: u8) -> u64
 
 // One byte more; 15 where there is no room for it.
 pub fn byte(out: &mut [u8], p: Pen, b: u8) -> Pen
-    ensures { λ r. ⌜ page (now (out .exit)) r ≡ put (page (now (out .entry)) p) b ⌝ }
+    ensures { λ r. ⌜ readPage (page (now (out .exit)) r) ≡ put (readPage (page (now (out .entry)) p)) b ⌝ }
 {
     if p.stop != 0 {
         return p;
@@ -196,7 +199,7 @@ fn missed(p: Pen, index: u32) -> Pen
         at: p.at,
         last: p.last,
         limit: p.limit,
-        stop: 17,
+        stop: MISSING,
         detail: index,
     }
 }

@@ -2,7 +2,8 @@
 -- Assumes nothing.
 use mathlib.Core.Path.{sym, _∙_, ap}
 use Rattle.pen.proofs.Laws.{put-stored, put-gone, put-halted, stop-some}
-use Rattle.pen.specs.Page.{page}
+use Rattle.pen.specs.Page.{page, readPage}
+use Rattle.pen.specs.declared.Pen.{Pen}
 use borrow.Author.Needs.{needs}
 use Rattle.pen.proofs.byte.Statement.{statement}
 use Rattle.pen.proofs.byte.Tie as tie
@@ -29,7 +30,7 @@ gone-requires : tie.Need-gone-requires
 gone-requires c κs = search needs
 
 returns-3 : tie.Need-returns-3
-returns-3 c = ap (page _) (c .gone .ensures) ∙ put-gone _ (c .before .before .before .before .before .args .p) _ (c .before .before .if1 .left) (c .before .if2 .left)
+returns-3 c = ap (λ (x : Pen). readPage (page (c .before .before .before .before .before .args .out .now) x)) (c .gone .ensures) ∙ put-gone _ (c .before .before .before .before .before .args .p) _ (c .before .before .if1 .left) (c .before .if2 .left)
 
 pub byte-spec : {M : Type 1} → statement M
 byte-spec =

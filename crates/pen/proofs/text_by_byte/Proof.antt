@@ -3,7 +3,7 @@
 use Prim.Native.Nat.{_≤_, _-_}
 use mathlib.Core.Path.{_≡_, sym}
 use lib.ListN.{length, take}
-use Rattle.pen.specs.Page.{page, ink}
+use Rattle.pen.specs.Page.{page, readPage, ink}
 use Rattle.pen.proofs.Laws.{ink-nil, ink-turn, ink-all, run-say}
 use native.Mathlib.Omega.{arith}
 use borrow.Author.Needs.{needs}
@@ -11,7 +11,7 @@ use Rattle.pen.proofs.text_by_byte.Statement.{statement}
 use Rattle.pen.proofs.text_by_byte.Tie as tie
 
 abbrev Inv-loop : tie.InvT-loop
-Inv-loop out₀ s q₀ i₀ out q i = (i ≤ length s) × (length out ≡ length out₀) × (page out q ≡ ink (page out₀ q₀) (take i s))
+Inv-loop out₀ s q₀ i₀ out q i = (i ≤ length s) × (length out ≡ length out₀) × (readPage (page out q) ≡ ink (readPage (page out₀ q₀)) (take i s))
 
 abbrev μ-loop : tie.MeasureT-loop
 μ-loop out₀ s q₀ i₀ out q i = length s - i

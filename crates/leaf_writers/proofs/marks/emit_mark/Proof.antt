@@ -17,9 +17,6 @@ missing-requires c κs = search needs
 enum-known-f-2 : tie.Need-enum-known-f-2
 enum-known-f-2 c = search needs
 
-cast-unimplemented : tie.Need-cast-unimplemented
-cast-unimplemented c = search needs
-
 unimplemented-requires : tie.Need-unimplemented-requires
 unimplemented-requires c κs = search needs
 
@@ -54,7 +51,6 @@ emit-mark-spec =
     enum-known-f
     missing-requires
     enum-known-f-2
-    cast-unimplemented
     unimplemented-requires
     refuse-requires
     same-length
