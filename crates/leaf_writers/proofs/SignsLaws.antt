@@ -14,7 +14,7 @@ use Rattle.codeview.specs.declared.record.ClassKind.{ClassKind}
 use Rattle.codeview.specs.declared.record.ClassKind.the-variants as kind
 use Rattle.rules.specs.Flags.{Settings}
 use Rattle.rules.specs.Text.{primitiveName, primitiveText, worded, classText, sign, Level, levels}
-use Rattle.pen.specs.Page.{Page, page, ink, Wrote, writing}
+use Rattle.pen.specs.Page.{Page, PageRead, readPage, ink, Wrote, writing}
 use Rattle.pen.proofs.Laws.{ink-append, ink-nil, run-say}
 use Rattle.context.specs.declared.levels.PtrAttributes.{PtrAttributes}
 use Rattle.context.specs.Context.{levelOf, levelAt}
@@ -102,13 +102,13 @@ module _ (c : Settings) (free signed : Bool) (items : List ℕ) (i : ℕ) where
   levels-next l h e = rw (add-one, drop-cons items i 0 h, ← e) (levels-more c free signed (levelOf l) _)
 
   -- A turn of a loop over the levels, and its end.
-  pub levels-turn : (l : PtrAttributes) (all : List ℕ) (g h k : Page) → i < length items → levelOf l ≡ levelAt (getD items i 0)
-      → ink g (levels c free signed (map levelAt (drop i items))) ≡ ink k all
+  pub levels-turn : (l : PtrAttributes) (all : List ℕ) (g h : Page) (k : PageRead) → i < length items → levelOf l ≡ levelAt (getD items i 0)
+      → ink (readPage g) (levels c free signed (map levelAt (drop i items))) ≡ ink k all
       → Wrote g (writing (levelText c free signed (levelOf l))) h
-      → ink h (levels c true (not (l .constant)) (map levelAt (drop (i + 1) items))) ≡ ink k all
+      → ink (readPage h) (levels c true (not (l .constant)) (map levelAt (drop (i + 1) items))) ≡ ink k all
   levels-turn l all g h k lt d e w =
-      rw (w .is, run-say) (ink-append (levelText c free signed (levelOf l)) g _ ∙ ap (ink g) (sym (levels-next l lt d)) ∙ e)
+      rw (w .is, run-say) (ink-append (levelText c free signed (levelOf l)) (readPage g) _ ∙ ap (ink (readPage g)) (sym (levels-next l lt d)) ∙ e)
 
-  pub levels-end : (all : List ℕ) (g k : Page) → length items ≤ i → ink g (levels c free signed (map levelAt (drop i items))) ≡ ink k all → Wrote k (writing all) g
+  pub levels-end : (all : List ℕ) (g k : Page) → length items ≤ i → ink (readPage g) (levels c free signed (map levelAt (drop i items))) ≡ ink (readPage k) all → Wrote k (writing all) g
   unfolding levels
-  levels-end all g k h e = record { is = (rw (drop-of-length-le items h, ink-nil) at e) ∙ sym (run-say k all) }
+  levels-end all g k h e = record { is = (rw (drop-of-length-le items h, ink-nil) at e) ∙ sym (run-say (readPage k) all) }

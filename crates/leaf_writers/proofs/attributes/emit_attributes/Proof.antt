@@ -7,7 +7,7 @@ use mathlib.Core.Path.{_≡_, refl}
 use mathlib.Core.List.{map}
 use lib.ListN.{length, drop}
 use Rattle.rules.specs.Text.{levels}
-use Rattle.pen.specs.Page.{page, ink}
+use Rattle.pen.specs.Page.{page, readPage, ink}
 use Rattle.context.specs.Context.{settingsOf, levelAt, levelsOf}
 use Rattle.leaf_writers.proofs.SignsLaws.{levels-turn, levels-end}
 use Rattle.leaf_writers.proofs.attributes.emit_attributes.Statement.{statement}
@@ -18,7 +18,7 @@ use Rattle.context.proofs.levels.unpack.Reads as unpack-reads
 use Rattle.leaf_writers.proofs.attributes.emit_level.Reads as emit-level-reads
 
 abbrev Inv-loop : tie.InvT-loop
-Inv-loop out₀ call free signed items q₀ f₀ s₀ i₀ out q f s i = (length items ≡ 96) × (length out ≡ length out₀) × (ink (page out q) (levels (settingsOf call) f s (map levelAt (drop i items))) ≡ ink (page out₀ q₀) (levels (settingsOf call) f₀ s₀ (map levelAt (drop i₀ items))))
+Inv-loop out₀ call free signed items q₀ f₀ s₀ i₀ out q f s i = (length items ≡ 96) × (length out ≡ length out₀) × (ink (readPage (page out q)) (levels (settingsOf call) f s (map levelAt (drop i items))) ≡ ink (readPage (page out₀ q₀)) (levels (settingsOf call) f₀ s₀ (map levelAt (drop i₀ items))))
 
 abbrev μ-loop : tie.MeasureT-loop
 μ-loop out₀ call free signed items q₀ f₀ s₀ i₀ out q f s i = 96 - i
