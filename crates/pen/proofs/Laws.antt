@@ -435,7 +435,7 @@ put-length-at No b at l lim v = by (ltb at lim)
 put-length-at (Missing i) b at l lim v = refl
 put-length-at (Refused f) b at l lim v = refl
 
-ink-length : (bs : List ℕ) (g : PageRead) → length (ink g bs .buf) ≡ length (g .buf)
+pub ink-length : (bs : List ℕ) (g : PageRead) → length (ink g bs .buf) ≡ length (g .buf)
 unfolding ink
 ink-length [] g = refl
 ink-length (b ∷ bs) g = ink-length bs (put g b) ∙ put-length-at (g .pen .stop) (g .buf) (g .pen .at) (g .pen .last) (g .pen .limit) b

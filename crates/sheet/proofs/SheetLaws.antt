@@ -15,10 +15,9 @@ use Rattle.wire.specs.Field.{pick}
 use Rattle.interpreter.specs.Trace as trace
 use Rattle.interpreter.specs.Trace.{Trace, tr, done, missing, refused, halted, again, deep, long, unfinished, count}
 use Rattle.rules.specs.Call as call
-use Rattle.pen.specs.Page.{Page, page, Wrote, writing, ink, stopOf}
+use Rattle.pen.specs.Page.{Page, PageRead, page, readPage, Wrote, writing, ink, stopOf}
 use Rattle.pen.specs.declared.Pen.{Pen}
-use Rattle.pen.specs.declared.Stop.the-variants.{No}
-use Rattle.pen.proofs.Laws.{run-say, ran-fits, Ran, ink-append, wrote-length}
+use Rattle.pen.proofs.Laws.{run-say, ran-fits, Ran, ink-append, ink-length, wrote-length}
 use Rattle.checked_calls.specs.Answers.{Result, ofAnswer, given, started, laid}
 use Rattle.checked_calls.specs.declared.answer.Answer.{Answer}
 use Rattle.checked_calls.specs.declared.answer.Answer.the-variants as answer
@@ -53,7 +52,7 @@ use Rattle.sheet.specs.declared.Printed.{Printed}
 pub line-whole : {buf b l : List ℕ} {p q : Pen} → p ≡ started (length buf) → Wrote (page buf p) (writing l) (page b q) → length l ≤ length buf → Whole buf l b (q .at)
 unfolding started stopOf
 line-whole {buf} {b} {l} {p} {q} e w h =
-    let v : Wrote (page buf (record { at = 0; last = 0; opened = 0; limit = length buf; stop = No })) (writing l) (page b q) = rw (← e) w in
+    let v : Wrote (page buf (record { at = 0; last = 0; limit = length buf; stop = 0; detail = 0 })) (writing l) (page b q) = rw (← e) w in
     let f = ran-fits buf (length buf) l done [] (count 0 0) b q h v in
     let r = f .1 (f .0) in
     let k : 0 + length l ≤ length buf = omega arith in
@@ -74,29 +73,29 @@ module _ (n : ℕ) (buf out : List ℕ) where
       rw (t, b, text-taken o) refl
 
 -- What was printed so far, from the start of the buffer.
-module _ {out₀ out bs : List ℕ} {p : Pen} (e : page out p ≡ ink (page out₀ (started (length out₀))) bs) (h : length bs ≤ length out₀) where
+module _ {out₀ out bs : List ℕ} (p : Pen) (e : readPage (page out p) ≡ ink (readPage (page out₀ (started (length out₀)))) bs) (h : length bs ≤ length out₀) where
   printed-so : Whole out₀ bs out (p .at)
-  printed-so = line-whole refl (record { is = e ∙ sym (run-say (page out₀ (started (length out₀))) bs) }) h
+  printed-so = line-whole refl (record { is = e ∙ sym (run-say (readPage (page out₀ (started (length out₀)))) bs) }) h
 
 -- The lines that are still to come, `n` of them passed: what was printed so far and what fits of the rest is what fits of all.
 pub record Pending (out₀ : List ℕ) (skip : ℕ) (all : List (List ℕ)) (out : List ℕ) (p : Pen) (n : ℕ) (rest : List (List ℕ)) : Type 0 where
   pub bs : List ℕ
-  pub page-is : page out p ≡ ink (page out₀ (started (length out₀))) bs
+  pub page-is : readPage (page out p) ≡ ink (readPage (page out₀ (started (length out₀)))) bs
   pub room : length bs ≤ length out₀
   pub is : ahead bs (n - skip) (fit (length out₀ - length bs) (drop (skip - n) rest)) ≡ fit (length out₀) (drop skip all)
 
 true-false : true ≡ false → ⊥
 true-false e = let z : _≡_ {A = ℕ} 0 1 = ap (λ (b : Bool). pick b 0 1) e in absurd (omega arith)
 
-put-passed : (g : Page) (b : Bool) (l : List ℕ) → b ≡ true → putOf g b l ≡ placedOn g false
+put-passed : (g : PageRead) (b : Bool) (l : List ℕ) → b ≡ true → putOf g b l ≡ placedOn g false
 unfolding putOf
 put-passed g b l e = rw e refl
 
-put-stuck : (g : Page) (b : Bool) (l : List ℕ) → b ≡ false → leb (length l) (length (g .buf) - g .pen .at) ≡ false → putOf g b l ≡ placedOn g true
+put-stuck : (g : PageRead) (b : Bool) (l : List ℕ) → b ≡ false → leb (length l) (length (g .buf) - g .pen .at) ≡ false → putOf g b l ≡ placedOn g true
 unfolding putOf
 put-stuck g b l e f = rw (e, f) refl
 
-put-inked : (g : Page) (b : Bool) (l : List ℕ) → b ≡ false → leb (length l) (length (g .buf) - g .pen .at) ≡ true → putOf g b l ≡ placedOn (ink g l) false
+put-inked : (g : PageRead) (b : Bool) (l : List ℕ) → b ≡ false → leb (length l) (length (g .buf) - g .pen .at) ≡ true → putOf g b l ≡ placedOn (ink g l) false
 unfolding putOf
 put-inked g b l e f = rw (e, f) refl
 
@@ -128,7 +127,7 @@ module _ (out₀ : List ℕ) (skip : ℕ) (all : List (List ℕ)) where
   module _ {out : List ℕ} {p : Pen} {n : ℕ} where
     pub pending-at : {rest : List (List ℕ)} → Pending out₀ skip all out p n rest → p .at ≤ length out
     pending-at g =
-        let w = printed-so (g .page-is) (g .room) in
+        let w = printed-so _ (g .page-is) (g .room) in
         rw (w .buffer-is, w .length-is, length-append (g .bs) (drop (length (g .bs)) out₀)) (omega arith)
 
     -- At the end: nothing more fits, or there is nothing more.
@@ -137,7 +136,7 @@ module _ (out₀ : List ℕ) (skip : ℕ) (all : List (List ℕ)) where
         → (r .bytes ≡ p .at) × ((r .lines ≡ n - skip) × (r .more ≡ m)) → shown out r ≡ laidOut out₀ (fit (length out₀) (drop skip all))
     unfolding laidOut
     ended {rest} m r g e f =
-        let w = printed-so (g .page-is) (g .room) in
+        let w = printed-so _ (g .page-is) (g .room) in
         let k : ahead (g .bs) (n - skip) (record { bytes = []; lines = 0; more = m }) ≡ fit (length out₀) (drop skip all) = ap (ahead (g .bs) (n - skip)) (sym e) ∙ g .is in
         rw (← k, f .0, f .1 .0, f .1 .1, w .buffer-is, w .length-is, append-nil, add-zero) refl
 
@@ -151,42 +150,42 @@ module _ (out₀ : List ℕ) (skip : ℕ) (all : List (List ℕ)) where
       -- the room on the page is what is left of the buffer
       room-is : length out - p .at ≡ length out₀ - length (g .bs)
       room-is =
-          let w = printed-so (g .page-is) (g .room) in
+          let w = printed-so _ (g .page-is) (g .room) in
           let k = length-append (g .bs) (drop (length (g .bs)) out₀) in
           let m = length-drop (length (g .bs)) out₀ in
           rw (w .buffer-is, w .length-is, k, m) (omega (arith, g .room))
 
       -- the next line does not fit
-      pub line-stuck : {r : Printed} {out₁ : List ℕ} {q : Pen} → placedOn (page out₁ q) true ≡ putOf (page out p) (ltb n skip) l
+      pub line-stuck : {r : Printed} {out₁ : List ℕ} (q : Pen) → placedOn (readPage (page out₁ q)) true ≡ putOf (readPage (page out p)) (ltb n skip) l
           → (r .bytes ≡ q .at) × ((r .lines ≡ n - skip) × (r .more ≡ true)) → shown out₁ r ≡ laidOut out₀ (fit (length out₀) (drop skip all))
-      line-stuck {r} {out₁} {q} e f = by (decLt n skip) (decLe (length l) (length out - p .at))
+      line-stuck {r} {out₁} q e f = by (decLt n skip) (decLe (length l) (length out - p .at))
         where
           by : Dec (n < skip) → Dec (length l ≤ length out - p .at) → shown out₁ r ≡ laidOut out₀ (fit (length out₀) (drop skip all))
-          by (yes h) d = absurd (let z : true ≡ false = ap (λ (x : Placed). x .full) (e ∙ put-passed (page out p) (ltb n skip) l (lt-ltb n skip h)) in true-false z)
+          by (yes h) d = absurd (let z : true ≡ false = ap (λ (x : Placed). x .full) (e ∙ put-passed (readPage (page out p)) (ltb n skip) l (lt-ltb n skip h)) in true-false z)
           by (no h) (yes d) =
-              absurd (let z : true ≡ false = ap (λ (x : Placed). x .full) (e ∙ put-inked (page out p) (ltb n skip) l (le-ltb n skip (omega arith)) (le-leb (length l) (length out - p .at) d)) in true-false z)
+              absurd (let z : true ≡ false = ap (λ (x : Placed). x .full) (e ∙ put-inked (readPage (page out p)) (ltb n skip) l (le-ltb n skip (omega arith)) (le-leb (length l) (length out - p .at) d)) in true-false z)
           by (no h) (no d) =
-              let x : placedOn (page out₁ q) true ≡ placedOn (page out p) true = e ∙ put-stuck (page out p) (ltb n skip) l (le-ltb n skip (omega arith)) (lt-leb (length l) (length out - p .at) (omega arith)) in
-              let a : page out₁ q ≡ page out p = ap (λ (x : Placed). x .on) x in
-              let b : out₁ ≡ out = ap (λ (y : Page). y .buf) a in
-              let c : q .at ≡ p .at = ap (λ (y : Page). y .pen .at) a in
+              let x : placedOn (readPage (page out₁ q)) true ≡ placedOn (readPage (page out p)) true = e ∙ put-stuck (readPage (page out p)) (ltb n skip) l (le-ltb n skip (omega arith)) (lt-leb (length l) (length out - p .at) (omega arith)) in
+              let a : readPage (page out₁ q) ≡ readPage (page out p) = ap (λ (x : Placed). x .on) x in
+              let b : out₁ ≡ out = ap (λ (y : PageRead). y .buf) a in
+              let c : q .at ≡ p .at = ap (λ (y : PageRead). y .pen .at) a in
               rw b (ended true r g (not-fits (length out₀ - length (g .bs)) l rest (skip - n) (omega arith) (rw (← room-is) (lt-leb (length l) (length out - p .at) (omega arith)))) (f .0 ∙ c, f .1))
 
       -- the next line is passed over, or stands on the page
-      pub line-placed : {out₁ : List ℕ} {q : Pen} → placedOn (page out₁ q) false ≡ putOf (page out p) (ltb n skip) l → Pending out₀ skip all out₁ q (n + 1) rest
+      pub line-placed : {out₁ : List ℕ} {q : Pen} → placedOn (readPage (page out₁ q)) false ≡ putOf (readPage (page out p)) (ltb n skip) l → Pending out₀ skip all out₁ q (n + 1) rest
       line-placed {out₁} {q} e = by (decLt n skip) (decLe (length l) (length out - p .at))
         where
           by : Dec (n < skip) → Dec (length l ≤ length out - p .at) → Pending out₀ skip all out₁ q (n + 1) rest
           by (yes h) d =
-              let a : page out₁ q ≡ page out p = ap (λ (x : Placed). x .on) (e ∙ put-passed (page out p) (ltb n skip) l (lt-ltb n skip h)) in
+              let a : readPage (page out₁ q) ≡ readPage (page out p) = ap (λ (x : Placed). x .on) (e ∙ put-passed (readPage (page out p)) (ltb n skip) l (lt-ltb n skip h)) in
               let b : skip - n ≡ suc (skip - (n + 1)) = omega arith in
               let m : n - skip ≡ (n + 1) - skip = omega arith in
               record { bs = g .bs; page-is = a ∙ g .page-is; room = g .room; is = rw (b, m) at (g .is) }
           by (no h) (no d) =
-              absurd (let z : false ≡ true = ap (λ (x : Placed). x .full) (e ∙ put-stuck (page out p) (ltb n skip) l (le-ltb n skip (omega arith)) (lt-leb (length l) (length out - p .at) (omega arith))) in true-false (sym z))
+              absurd (let z : false ≡ true = ap (λ (x : Placed). x .full) (e ∙ put-stuck (readPage (page out p)) (ltb n skip) l (le-ltb n skip (omega arith)) (lt-leb (length l) (length out - p .at) (omega arith))) in true-false (sym z))
           by (no h) (yes d) =
-              let a : page out₁ q ≡ ink (page out p) l = ap (λ (x : Placed). x .on) (e ∙ put-inked (page out p) (ltb n skip) l (le-ltb n skip (omega arith)) (le-leb (length l) (length out - p .at) d)) in
-              let b : page out₁ q ≡ ink (page out₀ (started (length out₀))) (g .bs ++ l) = a ∙ ap (λ (y : Page). ink y l) (g .page-is) ∙ ink-append (g .bs) (page out₀ (started (length out₀))) l in
+              let a : readPage (page out₁ q) ≡ ink (readPage (page out p)) l = ap (λ (x : Placed). x .on) (e ∙ put-inked (readPage (page out p)) (ltb n skip) l (le-ltb n skip (omega arith)) (le-leb (length l) (length out - p .at) d)) in
+              let b : readPage (page out₁ q) ≡ ink (readPage (page out₀ (started (length out₀)))) (g .bs ++ l) = a ∙ ap (λ (y : PageRead). ink y l) (g .page-is) ∙ ink-append (g .bs) (readPage (page out₀ (started (length out₀)))) l in
               let r = room-is in
               let k = length-append (g .bs) l in
               let x = does-fit (length out₀ - length (g .bs)) l rest (skip - n) (omega arith) (rw (← r) (le-leb (length l) (length out - p .at) d)) in
@@ -323,18 +322,18 @@ pub record Going (types ids sheet out₀ : List ℕ) (skip : ℕ) (out : List �
   pub low : s .lines ≤ s .at
   pub short : length sheet < 9223372036854775808
 
-same-put : (g : Page) (x : Bool) (l : List ℕ) → length (putOf g x l .on .buf) ≡ length (g .buf)
+same-put : (g : PageRead) (x : Bool) (l : List ℕ) → length (putOf g x l .on .buf) ≡ length (g .buf)
 unfolding putOf
 same-put g x l = by x (leb (length l) (length (g .buf) - g .pen .at))
   where
     by : (x y : Bool) → length (pick x (placedOn g false) (pick y (placedOn (ink g l) false) (placedOn g true)) .on .buf) ≡ length (g .buf)
     by true y = refl
-    by false true = wrote-length {g = g} {h = ink g l} {t = writing l} (record { is = sym (run-say g l) })
+    by false true = ink-length l g
     by false false = refl
 
 pending-length : {out₀ out : List ℕ} {skip n : ℕ} {all rest : List (List ℕ)} {p : Pen} → Pending out₀ skip all out p n rest → length out ≡ length out₀
 pending-length {out₀} g =
-    let w = printed-so (g .page-is) (g .room) in
+    let w = printed-so _ (g .page-is) (g .room) in
     let m = length-drop (length (g .bs)) out₀ in
     rw (w .buffer-is, length-append (g .bs) (drop (length (g .bs)) out₀), m) (omega (arith, g .room))
 
@@ -342,9 +341,9 @@ module _ (types ids sheet out₀ : List ℕ) (skip : ℕ) where
   pub going-length : {out : List ℕ} {p : Pen} {s : State} → Going types ids sheet out₀ skip out p s → length out ≡ length out₀
   going-length g = pending-length (g .pending)
 
-  pub put-length : {out out₁ : List ℕ} {p q : Pen} {s : State} {b : Bool} (x : Bool) (l : List ℕ) → Going types ids sheet out₀ skip out p s
-      → placedOn (page out₁ q) b ≡ putOf (page out p) x l → length out₁ ≡ length out₀
-  put-length {out} {out₁} {p} x l g e = ap (λ (y : Placed). length (y .on .buf)) e ∙ same-put (page out p) x l ∙ going-length g
+  pub put-length : {out out₁ : List ℕ} {p : Pen} (q : Pen) {s : State} {b : Bool} (x : Bool) (l : List ℕ) → Going types ids sheet out₀ skip out p s
+      → placedOn (readPage (page out₁ q)) b ≡ putOf (readPage (page out p)) x l → length out₁ ≡ length out₀
+  put-length {out} {out₁} {p} q x l g e = ap (λ (y : Placed). length (y .on .buf)) e ∙ same-put (readPage (page out p)) x l ∙ going-length g
 
   pub going-at : {out : List ℕ} {p : Pen} {s : State} → Going types ids sheet out₀ skip out p s → p .at ≤ length out
   going-at g = pending-at out₀ skip (sheetLines types ids sheet) (g .pending)
@@ -420,7 +419,7 @@ module _ (types ids sheet out₀ : List ℕ) (skip : ℕ) where
     going-set i h = rw i (set-goes h)
 
     -- a line that was passed over or stands on the page
-    line-goes : {out₁ : List ℕ} {q : Pen} → r ≡ step.Line → placedOn (page out₁ q) false ≡ putOf (page out p) (ltb (s .lines) skip) (lineOf types ids sheet s c)
+    line-goes : {out₁ : List ℕ} {q : Pen} → r ≡ step.Line → placedOn (readPage (page out₁ q)) false ≡ putOf (readPage (page out p)) (ltb (s .lines) skip) (lineOf types ids sheet s c)
         → Going types ids sheet out₀ skip out₁ q (afterOf s c)
     line-goes h x =
         let i : 1 ≤ runs r = rw h (omega arith) in
@@ -436,21 +435,21 @@ module _ (types ids sheet out₀ : List ℕ) (skip : ℕ) where
         }
 
     pub going-line : {s₁ : State} {out₁ : List ℕ} {q : Pen} → s₁ ≡ afterOf s c → r ≡ step.Line
-        → placedOn (page out₁ q) false ≡ putOf (page out p) (ltb (s .lines) skip) (lineOf types ids sheet s c) → Going types ids sheet out₀ skip out₁ q s₁
+        → placedOn (readPage (page out₁ q)) false ≡ putOf (readPage (page out p)) (ltb (s .lines) skip) (lineOf types ids sheet s c) → Going types ids sheet out₀ skip out₁ q s₁
     going-line i h x = rw i (line-goes h x)
 
     -- the line of a faulty command, which is the last
-    pub going-last : {out₁ : List ℕ} {q : Pen} {d : Printed} → r ≡ step.Last → placedOn (page out₁ q) false ≡ putOf (page out p) (ltb (s .lines) skip) (lineOf types ids sheet s c)
+    pub going-last : {out₁ : List ℕ} (q : Pen) {d : Printed} → r ≡ step.Last → placedOn (readPage (page out₁ q)) false ≡ putOf (readPage (page out p)) (ltb (s .lines) skip) (lineOf types ids sheet s c)
         → (d .bytes ≡ q .at) × ((d .lines ≡ (s .lines + 1) - skip) × (d .more ≡ false)) → shown out₁ d ≡ laidOut out₀ (fit (length out₀) (drop skip (sheetLines types ids sheet)))
-    going-last h x y =
+    going-last q h x y =
         let i : 1 ≤ runs r = rw h (omega arith) in
         all-shown out₀ skip (sheetLines types ids sheet) (line-placed out₀ skip (sheetLines types ids sheet) (rw h at (come i)) x) y
 
     -- a line without room
-    pub going-stuck : {out₁ : List ℕ} {q : Pen} {d : Printed} → (r ≡ step.Last) ⊎ (r ≡ step.Line) → placedOn (page out₁ q) true ≡ putOf (page out p) (ltb (s .lines) skip) (lineOf types ids sheet s c)
+    pub going-stuck : {out₁ : List ℕ} (q : Pen) {d : Printed} → (r ≡ step.Last) ⊎ (r ≡ step.Line) → placedOn (readPage (page out₁ q)) true ≡ putOf (readPage (page out p)) (ltb (s .lines) skip) (lineOf types ids sheet s c)
         → (d .bytes ≡ q .at) × ((d .lines ≡ s .lines - skip) × (d .more ≡ true)) → shown out₁ d ≡ laidOut out₀ (fit (length out₀) (drop skip (sheetLines types ids sheet)))
-    going-stuck (inl h) x y = line-stuck out₀ skip (sheetLines types ids sheet) (rw h at (come (rw h (omega arith)))) x y
-    going-stuck (inr h) x y = line-stuck out₀ skip (sheetLines types ids sheet) (rw h at (come (rw h (omega arith)))) x y
+    going-stuck q (inl h) x y = line-stuck out₀ skip (sheetLines types ids sheet) (rw h at (come (rw h (omega arith)))) q x y
+    going-stuck q (inr h) x y = line-stuck out₀ skip (sheetLines types ids sheet) (rw h at (come (rw h (omega arith)))) q x y
 
 -- The line of a size, and of a text, by the answer.
 module _ {buf out : List ℕ} {k : ℕ} (number : ℕ) where
@@ -562,11 +561,11 @@ module _ (types ids sheet : List ℕ) (s : State) (c : Command) where
     unfolding lineOf
     line-faulty e = rw e refl
 
-pub full-as : {g : Page} {b c : Bool} {x : Placed} → b ≡ c → placedOn g b ≡ x → placedOn g c ≡ x
+pub full-as : {g : PageRead} {b c : Bool} {x : Placed} → b ≡ c → placedOn g b ≡ x → placedOn g c ≡ x
 full-as e f = rw (← e) f
 
 -- A line on the page: passed over, without room, or written.
-pub passed : (g : Page) (l : List ℕ) (n skip : ℕ) → n < skip → placedOn g false ≡ putOf g (ltb n skip) l
+pub passed : (g : PageRead) (l : List ℕ) (n skip : ℕ) → n < skip → placedOn g false ≡ putOf g (ltb n skip) l
 passed g l n skip h = sym (put-passed g (ltb n skip) l (lt-ltb n skip h))
 
 module _ {buf l line : List ℕ} {k : ℕ} (w : Whole buf l line k) where
@@ -579,14 +578,14 @@ module _ {buf l line : List ℕ} {k : ℕ} (w : Whole buf l line k) where
   pub whole-count : k ≡ length (take k line)
   whole-count = w .length-is ∙ sym (ap length taken-is)
 
-  pub stuck : (g : Page) (n skip : ℕ) → skip ≤ n → length (g .buf) - g .pen .at < k → placedOn g true ≡ putOf g (ltb n skip) l
+  pub stuck : (g : PageRead) (n skip : ℕ) → skip ≤ n → length (g .buf) - g .pen .at < k → placedOn g true ≡ putOf g (ltb n skip) l
   stuck g n skip h i = let j = w .length-is in sym (put-stuck g (ltb n skip) l (le-ltb n skip h) (lt-leb (length l) (length (g .buf) - g .pen .at) (omega arith)))
 
-  pub placed : (g h : Page) (n skip : ℕ) → skip ≤ n → k ≤ length (g .buf) - g .pen .at → Wrote g (writing (take k line)) h → placedOn h false ≡ putOf g (ltb n skip) l
+  pub placed : (g h : Page) (n skip : ℕ) → skip ≤ n → k ≤ length (g .buf) - g .pen .at → Wrote g (writing (take k line)) h → placedOn (readPage h) false ≡ putOf (readPage g) (ltb n skip) l
   placed g h n skip i j v =
-      let b : h ≡ ink g l = v .is ∙ run-say g (take k line) ∙ ap (ink g) taken-is in
+      let b : readPage h ≡ ink (readPage g) l = v .is ∙ run-say (readPage g) (take k line) ∙ ap (ink (readPage g)) taken-is in
       let m = w .length-is in
-      rw b (sym (put-inked g (ltb n skip) l (le-ltb n skip i) (le-leb (length l) (length (g .buf) - g .pen .at) (omega arith))))
+      rw b (sym (put-inked (readPage g) (ltb n skip) l (le-ltb n skip i) (le-leb (length l) (length (g .buf) - g .pen .at) (omega arith))))
 
 -- Nothing is lost.
 abbrev nextFit : List ℕ → Fit → Bool → Fit

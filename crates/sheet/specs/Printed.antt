@@ -6,7 +6,7 @@ use mathlib.Core.Path.{_≡_}
 use lib.Dec.{leb, ltb}
 use lib.ListN.{length, drop}
 use Rattle.wire.specs.Field.{pick}
-use Rattle.pen.specs.Page.{Page, page, ink}
+use Rattle.pen.specs.Page.{PageRead, ink}
 use Rattle.pen.specs.declared.Pen.{Pen}
 use Rattle.sheet.specs.Sheet.{Fit, sheetLines, sheetFit}
 use Rattle.sheet.specs.declared.Printed.{Printed}
@@ -17,16 +17,16 @@ pub record Whole (buf l : List ℕ) (out : List ℕ) (n : ℕ) : Type 0 where
   pub length-is : n ≡ length l
   pub buffer-is : out ≡ l ++ drop (length l) buf
 
--- A page, and whether there was no room.
+-- A page as it is read, and whether there was no room.
 pub record Placed : Type 0 where
-  pub on : Page
+  pub on : PageRead
   pub full : Bool
 
-abbrev pub placedOn : Page → Bool → Placed
+abbrev pub placedOn : PageRead → Bool → Placed
 placedOn g b = record { on = g; full = b }
 
 -- A line is left out where it was printed before, and where there is no room for the whole of it.
-unfoldable pub putOf : Page → Bool → List ℕ → Placed
+unfoldable pub putOf : PageRead → Bool → List ℕ → Placed
 putOf g before l =
     pick before (placedOn g false)
     (pick (leb (length l) (length (g .buf) - g .pen .at)) (placedOn (ink g l) false) (placedOn g true))

@@ -8,7 +8,7 @@ ghost use Rattle.rules.specs.Places.{near};
 ghost use Rattle.checked_calls.specs.Kept.{KeptOf};
 ghost use Rattle.streams.specs.declared.refusal.StreamKind.the-variants.{Types, Ids};
 ghost use Rattle.sheet.specs.Command.{givenName};
-ghost use Rattle.pen.specs.Page.{page};
+ghost use Rattle.pen.specs.Page.{readPage, page};
 ghost use Rattle.checked_calls.specs.Answers.{ofAnswer};
 ghost use Rattle.checked_calls.specs.Checks.{ofSizeAnswer};
 ghost use Rattle.sheet.specs.Line.{sizeLine, refusedLine};
@@ -290,7 +290,7 @@ fn put_line(
     skip: usize,
 ) -> Put
     requires { ⌜ KeptOf Types (now types) (near (now bounds) (now places)) × (KeptOf Ids (now ids) (near (now bounds) (now places)) × ((4150 ≤ length (now line)) × ((length (now text) ≡ 4096) × ((p .at ≤ length (now out)) × Countable s)))) ⌝ }
-    ensures { λ r. ⌜ placedOn (page (now (out .exit)) (r .pen)) (r .full) ≡ putOf (page (now (out .entry)) p) (ltb (s .lines) skip) (lineOf (now (types .entry)) (now (ids .entry)) (now (sheet .entry)) s c) ⌝ }
+    ensures { λ r. ⌜ placedOn (readPage (page (now (out .exit)) (r .pen))) (r .full) ≡ putOf (readPage (page (now (out .entry)) p)) (ltb (s .lines) skip) (lineOf (now (types .entry)) (now (ids .entry)) (now (sheet .entry)) s c) ⌝ }
 {
     if s.lines < skip {
         return Put {
