@@ -12,7 +12,7 @@ use lib.Dec.{leb, ltb}
 use borrow.Author.Tests.{ltb-true, ltb-false, leb-false, le-ltb, lt-ltb, lt-leb}
 use Rattle.wire.specs.Field.{pick, field}
 use Rattle.streams.specs.Stream.{behind, passed, recordAt, firstRecord, walkFrom, lookFrom}
-use Rattle.streams.specs.Places.{firstMark, entryIn, markIn, markBy, nearest, servesIn, serves, servesUntil, RightMarks, RightFor, RightPlaces, strided}
+use Rattle.streams.specs.Places.{firstMark, entryIn, markIn, markBy, nearest, servesIn, serves, servesUntil, RightMarks, RightFor, RightPlaces, strided, spaced, Parted}
 use Rattle.streams.specs.declared.stream.Stream.{Stream}
 use Rattle.streams.specs.declared.stream.Cursor.{Cursor}
 use Rattle.streams.specs.declared.stream.Place.the-variants.{At, Beyond}
@@ -228,3 +228,21 @@ mark-same l ps n m h j = go (ltb n (l .second)) (ltb n (l .third)) (ltb n (l .fo
 pub nearest-same : (l : Spacing) (ps : List ℕ) (t : Stream) (i j : ℕ) → t .first ≤ i → i ≤ j → j < servesUntil l t i → nearest l ps t j ≡ nearest l ps t i
 unfolding nearest servesUntil
 nearest-same l ps t i j f h k = rw (mark-same l ps (i - t .first) (j - t .first) (omega arith) (omega arith))
+
+-- The part that a record stands in: the first, second, third or fourth.
+module _ (room second third fourth n : ℕ) where
+  pub parted-first : n < second → Parted room second third fourth n (record { from = 0; base = 0 })
+  unfolding markBy markIn
+  parted-first h = record { low = omega arith; near = omega arith; mark = λ ps stride. rw (lt-ltb n second h) }
+
+  pub parted-second : (from : ℕ) → from ≡ room → second ≤ n → n < third → Parted room second third fourth n (record { from = from; base = second })
+  unfolding markBy markIn
+  parted-second from e h i = record { low = h; near = omega arith; mark = λ ps stride. rw (e, le-ltb n second h, lt-ltb n third i) }
+
+  pub parted-third : (from : ℕ) → from ≡ room → second ≤ n → third ≤ n → n < fourth → Parted room second third fourth n (record { from = 2 * from; base = third })
+  unfolding markBy markIn
+  parted-third from e h i j = record { low = i; near = omega arith; mark = λ ps stride. rw (e, le-ltb n second h, le-ltb n third i, lt-ltb n fourth j) }
+
+  pub parted-fourth : (from : ℕ) → from ≡ room → second ≤ n → third ≤ n → fourth ≤ n → Parted room second third fourth n (record { from = 3 * from; base = fourth })
+  unfolding markBy markIn
+  parted-fourth from e h i j = record { low = j; near = omega arith; mark = λ ps stride. rw (e, le-ltb n second h, le-ltb n third i, le-ltb n fourth j) }

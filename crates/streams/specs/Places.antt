@@ -16,6 +16,7 @@ use Rattle.streams.specs.declared.stream.Place.{Place}
 use Rattle.streams.specs.declared.stream.Place.the-variants.{At, Beyond}
 use Rattle.streams.specs.declared.places.Spacing.{Spacing}
 use Rattle.streams.specs.declared.places.Mark.{Mark}
+use Rattle.streams.specs.declared.places.Part.{Part}
 use Rattle.streams.specs.declared.places.NotedCheck.{NotedCheck}
 
 -- The first record, which needs no note.
@@ -84,6 +85,16 @@ RightPlaces stride ps count s = RightRun s 56 count stride (length ps) 0 ps
 -- Places that stand for a whole stream, `room` of them in use.
 abbrev pub strided : ℕ → ℕ → Spacing
 strided stride room = record { stride = stride; room = room; second = 0xffff_ffff; third = 0xffff_ffff; fourth = 0xffff_ffff }
+
+-- A spacing by its numbers.
+abbrev pub spaced : ℕ → ℕ → ℕ → ℕ → ℕ → Spacing
+spaced stride room second third fourth = record { stride = stride; room = room; second = second; third = third; fourth = fourth }
+
+-- The part that a record stands in: its mark is that of the part.
+pub record Parted (room second third fourth n : ℕ) (r : Part) : Type 0 where
+  pub low : r .base ≤ n
+  pub near : r .from ≤ 3 * room
+  pub mark : (ps : List ℕ) (stride : ℕ) → markBy (spaced stride room second third fourth) ps n ≡ markIn (strided stride room) ps (r .from) (r .base) n
 
 -- Places in four parts of `room` entries each, with so many records.
 abbrev pub quartered : ℕ → ℕ → ℕ → ℕ → ℕ → Spacing

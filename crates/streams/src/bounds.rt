@@ -2,14 +2,21 @@
 ghost use mathlib.Core.Path.{_≡_};
 ghost use Prim.Native.Nat.{_≤_, min};
 ghost use lib.ListN.{getD};
+ghost use Rattle.streams.specs.Stream.{lookFrom};
+ghost use Rattle.streams.specs.Places.{nearest};
+ghost use Rattle.streams.specs.declared.stream.Found.the-variants as found;
 ghost use Rattle.streams.specs.Bounds.{startOf, streamIn, spacingIn, checkIn, placesIn, stateOf, streamOf, boundsOf};
 use crate::places::NotedCheck;
 use crate::places::Spacing;
+use crate::places::look_up;
+use crate::places::mark_of;
 use crate::places::wide;
 use crate::refusal::Refusal;
 use crate::refusal::StreamKind;
+use crate::stream::Found;
 use crate::stream::Stream;
 use crate::stream::StreamCheck;
+use crate::stream::record_behind;
 use crate::stream::shorter;
 
 // A number of a list; 0 past its end.
@@ -100,6 +107,45 @@ pub fn places_in<'a>(bounds: &[u32], places: &'a [u32], which: StreamKind) -> &'
         StreamKind::Types => &places[..split],
         StreamKind::Ids => &places[split..],
     }
+}
+
+// The record of an index: in the stream, and by the places, that the numbers tell of.
+pub fn look_up_in(s: &[u8], bounds: &[u32], places: &[u32], which: StreamKind, index: u32) -> Found
+    ensures { λ r. ⌜ r ≡ lookFrom (now (s .entry)) (streamIn (now (bounds .entry)) which) (nearest (spacingIn (now (bounds .entry)) which) (placesIn (now (bounds .entry)) (now (places .entry)) which) (streamIn (now (bounds .entry)) which) index) index found.Record found.Missing found.CrossModule ⌝ }
+{
+    let k = start_of(which);
+    let near = places_in(bounds, places, which);
+    if bounds.len() < 19 {
+        return look_up(
+            s,
+            near,
+            spacing_in(bounds, which),
+            stream_in(bounds, which),
+            index,
+        );
+    }
+    if 0x8000_0000 <= index {
+        return Found::CrossModule;
+    }
+    let first = bounds[k + 1];
+    if index < first {
+        return Found::Missing;
+    }
+    if bounds[k + 2] <= index {
+        return Found::Missing;
+    }
+    let n = index - first;
+    let m = mark_of(
+        near,
+        bounds[k + 4],
+        bounds[k + 5],
+        bounds[k + 6],
+        bounds[k + 7],
+        bounds[k + 8],
+        n,
+    );
+    let stop = shorter(wide(bounds[k + 3]), s.len());
+    record_behind(&s[..stop], m.place, n - m.number)
 }
 
 fn state_of(c: StreamCheck) -> u32

@@ -2,14 +2,12 @@
 ghost use mathlib.Core.Path.{_≡_};
 ghost use Prim.Native.Nat.{_≤_, _<_, _/_, _-_, min};
 ghost use lib.ListN.{length};
-ghost use Rattle.streams.specs.Stream.{walkFrom, lookFrom};
-ghost use Rattle.streams.specs.Places.{markIn, markBy, nearest, servesIn, servesUntil, strided, Noted, NotedFor};
-ghost use Rattle.streams.specs.declared.stream.CursorRead.the-variants as cursor;
+ghost use Rattle.streams.specs.Stream.{lookFrom};
+ghost use Rattle.streams.specs.Places.{markIn, markBy, nearest, servesIn, servesUntil, strided, spaced, Parted, Noted, NotedFor};
 ghost use Rattle.streams.specs.declared.stream.Found.the-variants as found;
 use crate::refusal::Refusal;
 use crate::refusal::StreamKind;
 use crate::stream::Cursor;
-use crate::stream::CursorRead;
 use crate::stream::Found;
 use crate::stream::Head;
 use crate::stream::Place;
@@ -17,9 +15,8 @@ use crate::stream::Stream;
 use crate::stream::StreamCheck;
 use crate::stream::behind_records;
 use crate::stream::header_of;
-use crate::stream::record_at;
+use crate::stream::record_behind;
 use crate::stream::records_of;
-use crate::stream::walk_from;
 
 // How places are laid out: in four parts of `room` entries, each with the place of every `stride`-th record of its own, and the numbers of the records
 // that the second, third and fourth part start with. One part alone has the others start at 0xffffffff.
@@ -35,6 +32,12 @@ pub struct Spacing {
 pub struct Mark {
     pub number: u32,
     pub place: usize,
+}
+
+// A part of the places: where its entries start, and the number of its first record.
+pub struct Part {
+    pub from: usize,
+    pub base: u32,
 }
 
 // The answer of a check, and how the places are laid out that it noted.
@@ -77,12 +80,10 @@ fn one_less(n: u32) -> u32
     if n == 0 { 0 } else { n - 1 }
 }
 
-fn mark_in(places: &[u32], l: Spacing, from: usize, base: u32, n: u32) -> Mark
+fn mark_in(places: &[u32], stride: u32, room: u32, from: usize, base: u32, n: u32) -> Mark
     requires { ⌜ (from ≤ 0x3_0000_0000) × (base ≤ n) ⌝ }
-    ensures { λ r. ⌜ r ≡ markIn l (now (places .entry)) from base n ⌝ }
+    ensures { λ r. ⌜ r ≡ markIn (strided stride room) (now (places .entry)) from base n ⌝ }
 {
-    let stride = l.stride;
-    let room = l.room;
     let k = least(strides(n - base, stride), one_less(room));
     let at = from + wide(k);
     if at < places.len() {
@@ -97,24 +98,50 @@ fn mark_in(places: &[u32], l: Spacing, from: usize, base: u32, n: u32) -> Mark
     }
 }
 
+// The part that a record stands in.
+fn part_by(room: u32, second: u32, third: u32, fourth: u32, n: u32) -> Part
+    ensures { λ r. ⌜ Parted room second third fourth n r ⌝ }
+{
+    if n < second {
+        return Part { from: 0, base: 0 };
+    }
+    let from = wide(room);
+    if n < third {
+        return Part { from, base: second };
+    }
+    if n < fourth {
+        return Part {
+            from: 2 * from,
+            base: third,
+        };
+    }
+    Part {
+        from: 3 * from,
+        base: fourth,
+    }
+}
+
+// The mark from which a record is sought, by the numbers of a spacing.
+pub fn mark_of(
+    places: &[u32],
+    stride: u32,
+    room: u32,
+    second: u32,
+    third: u32,
+    fourth: u32,
+    n: u32,
+) -> Mark
+    ensures { λ r. ⌜ r ≡ markBy (spaced stride room second third fourth) (now (places .entry)) n ⌝ }
+{
+    let p = part_by(room, second, third, fourth, n);
+    mark_in(places, stride, room, p.from, p.base, n)
+}
+
 // The mark from which a record is sought.
 pub fn mark_by(places: &[u32], l: Spacing, n: u32) -> Mark
     ensures { λ r. ⌜ r ≡ markBy l (now (places .entry)) n ⌝ }
 {
-    let second = l.second;
-    let third = l.third;
-    let fourth = l.fourth;
-    let room = wide(l.room);
-    if n < second {
-        return mark_in(places, l, 0, 0, n);
-    }
-    if n < third {
-        return mark_in(places, l, room, second, n);
-    }
-    if n < fourth {
-        return mark_in(places, l, 2 * room, third, n);
-    }
-    mark_in(places, l, 3 * room, fourth, n)
+    mark_of(places, l.stride, l.room, l.second, l.third, l.fourth, n)
 }
 
 // The number of an index in its stream.
@@ -184,27 +211,27 @@ pub fn serves_until(l: Spacing, stream: Stream, index: u32) -> usize
     wide(stream.first) + serves(l, n)
 }
 
-// Where the record of an index stands.
-pub fn cursor_at(s: &[u8], places: &[u32], l: Spacing, stream: Stream, index: u32) -> CursorRead
-    ensures { λ r. ⌜ r ≡ walkFrom (now (s .entry)) stream (nearest l (now (places .entry)) stream index) index cursor.At cursor.Missing cursor.CrossModule ⌝ }
-{
-    let from = start_of(places, l, stream, index);
-    walk_from(s, stream, from, index)
-}
-
 // The record of an index of a checked stream.
 pub fn look_up(s: &[u8], places: &[u32], l: Spacing, stream: Stream, index: u32) -> Found
     ensures { λ r. ⌜ r ≡ lookFrom (now (s .entry)) stream (nearest l (now (places .entry)) stream index) index found.Record found.Missing found.CrossModule ⌝ }
 {
-    match cursor_at(s, places, l, stream, index) {
-        CursorRead::At(c) => record_at(records_of(s, stream), c.at),
-        CursorRead::Missing => Found::Missing,
-        CursorRead::CrossModule => Found::CrossModule,
+    if 0x8000_0000 <= index {
+        return Found::CrossModule;
     }
+    let first = stream.first;
+    if index < first {
+        return Found::Missing;
+    }
+    if stream.end <= index {
+        return Found::Missing;
+    }
+    let n = index - first;
+    let m = mark_by(places, l, n);
+    record_behind(records_of(s, stream), m.place, n - m.number)
 }
 
 // The place behind `count` records from a place on; the places of every `stride`-th of them are noted, as many as there is room for.
-pub fn behind_noting(s: &[u8], from: usize, count: u32, stride: u32, places: &mut [u32]) -> Place
+fn behind_noting(s: &[u8], from: usize, count: u32, stride: u32, places: &mut [u32]) -> Place
     requires { ⌜ (length (now s) < 0x1_0000_0000) × (from < 0x1_0000_0000) × (0 < stride) ⌝ }
     ensures { λ r. ⌜ Noted (now (s .entry)) from count stride (now (places .entry)) (now (places .exit)) r ⌝ }
 {

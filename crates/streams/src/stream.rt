@@ -1,7 +1,8 @@
 // A stream: the check of its header and of its records, and the way from an index to its record. Nothing else walks a stream.
 ghost use mathlib.Core.Path.{_≡_};
-ghost use Prim.Native.Nat.{_+_, _≤_, min};
+ghost use Prim.Native.Nat.{_+_, _≤_, _<_, min};
 ghost use lib.ListN.{length, take};
+ghost use Rattle.wire.specs.Field.{number};
 ghost use Rattle.streams.specs.Stream.{indexes, header, behind, passed, recordAt, walkFrom};
 ghost use Rattle.streams.specs.declared.stream.Head.the-variants as head;
 ghost use Rattle.streams.specs.declared.stream.Place.the-variants.{At, Beyond};
@@ -134,21 +135,67 @@ pub fn behind_records(s: &[u8], from: usize, count: u32) -> Place
     Place::At(at)
 }
 
-// The record at a place.
+fn byte(b: u8) -> u16
+    ensures { λ r. ⌜ (r ≡ b) × (r < 256) ⌝ }
+{
+    b as u16
+}
+
+// The number that two bytes inside a stream make.
+pub fn two(s: &[u8], at: usize) -> u16
+    requires { ⌜ at + 2 ≤ length (now s) ⌝ }
+    ensures { λ r. ⌜ r ≡ number 2 (now (s .entry)) at ⌝ }
+{
+    byte(s[at]) + 256 * byte(s[at + 1])
+}
+
+// The record at a place. It has at least four bytes.
 pub fn record_at(s: &[u8], at: usize) -> Found
     ensures { λ r. ⌜ r ≡ recordAt (now (s .entry)) at found.Record found.Missing ⌝ }
 {
-    let Place::At(end) = behind_record(s, at) else {
+    if s.len() < 4 {
         return Found::Missing;
-    };
-    let Field16::Value(kind) = wire::field::u16_at(s, at + 2) else {
+    }
+    if s.len() - 4 < at {
         return Found::Missing;
-    };
+    }
+    let bytes = two(s, at);
+    if bytes < 2 {
+        return Found::Missing;
+    }
+    let end = at + 2 + (bytes as usize);
+    if s.len() < end {
+        return Found::Missing;
+    }
     Found::Record {
-        kind,
+        kind: two(s, at + 2),
         start: at + 4,
         end,
     }
+}
+
+// The record behind `count` others from a place on. What is past the end of the stream is missed when the next record is read.
+pub fn record_behind(s: &[u8], from: usize, count: u32) -> Found
+    ensures { λ r. ⌜ r ≡ passed count (now (s .entry)) from (λ at. recordAt (now (s .entry)) at found.Record found.Missing) found.Missing ⌝ }
+{
+    if s.len() < 4 {
+        return Found::Missing;
+    }
+    let last = s.len() - 4;
+    let mut at = from;
+    let mut left = count;
+    while 0 < left {
+        if last < at {
+            return Found::Missing;
+        }
+        let bytes = two(s, at);
+        if bytes < 2 {
+            return Found::Missing;
+        }
+        at = at + 2 + (bytes as usize);
+        left -= 1;
+    }
+    record_at(s, at)
 }
 
 pub fn shorter(a: usize, b: usize) -> usize

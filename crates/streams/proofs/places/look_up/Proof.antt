@@ -1,48 +1,47 @@
--- What the cursor of the index says of it.
+-- What an index stands for, by its mark.
 -- Assumes nothing.
 use mathlib.Core.Path.{sym, _∙_}
-use Rattle.streams.proofs.Cursors.{look-cursor}
+use Rattle.streams.specs.declared.stream.Found.the-variants.{Record, Missing, CrossModule}
+use Rattle.streams.proofs.Marks.{mark-low}
+use Rattle.streams.proofs.Records.{look-cross, look-before, look-past, look-near}
+use native.Mathlib.Omega.{arith}
 use borrow.Author.Needs.{needs}
 use Rattle.streams.proofs.places.look_up.Statement.{statement}
 use Rattle.streams.proofs.places.look_up.Tie as tie
 
-cursor-at-requires : tie.Need-cursor-at-requires
-cursor-at-requires c κs = search needs
+returns : tie.Need-returns
+returns c = sym (look-cross _ _ _ Record Missing CrossModule _ (c .if1 .taken))
 
-enum-known-c : tie.Need-enum-known-c
-enum-known-c c = search needs
+returns-2 : tie.Need-returns-2
+returns-2 c = sym (look-before _ _ _ Record Missing CrossModule _ _ (c .before .if1 .left) (c .if2 .taken))
+
+returns-3 : tie.Need-returns-3
+returns-3 c = sym (look-past _ _ _ Record Missing CrossModule _ (c .before .before .before .if1 .left) (c .if3 .taken))
+
+mark-by-requires : tie.Need-mark-by-requires
+mark-by-requires c κs = search needs
 
 records-of-requires : tie.Need-records-of-requires
 records-of-requires c κs = search needs
 
-record-at-requires : tie.Need-record-at-requires
-record-at-requires c κs = search needs
+sub-record-behind : tie.Need-sub-record-behind
+sub-record-behind c = omega (arith, mark-low _ _ _ (c .before .before .mark-by .ensures))
 
-enum-told : tie.Need-enum-told
-enum-told c = search needs
+record-behind-requires : tie.Need-record-behind-requires
+record-behind-requires c κs = search needs
 
-enum-told-2 : tie.Need-enum-told-2
-enum-told-2 c = search needs
-
-returns : tie.Need-returns
-returns c = c .record-at .ensures ∙ rw (c .before .records-of .ensures) (sym (look-cursor _ _ _ _ (c .before .before .before .before .before .cursor-at .ensures) (c .before .before .before .c .given .1) _ _ _))
-
-returns-2 : tie.Need-returns-2
-returns-2 c = sym (look-cursor _ _ _ _ (c .before .before .cursor-at .ensures) (c .enum-told .given .1) _ _ _)
-
-returns-3 : tie.Need-returns-3
-returns-3 c = sym (look-cursor _ _ _ _ (c .before .before .cursor-at .ensures) (c .enum-told2 .given .1) _ _ _)
+returns-4 : tie.Need-returns-4
+returns-4 c = c .record-behind .ensures ∙ rw (c .before .before .records-of .ensures) (sym (look-near _ _ _ Record Missing CrossModule _ _ (c .before .before .before .before .before .before .before .if1 .left) (c .before .before .before .before .before .before .if2 .left) (c .before .before .before .before .if3 .left) _ (c .before .before .before .mark-by .ensures)))
 
 pub look-up-spec : {M : Type 1} → statement M
 look-up-spec =
     tie.close
     (tie.spec
-    cursor-at-requires
-    enum-known-c
-    records-of-requires
-    record-at-requires
-    enum-told
-    enum-told-2
     returns
     returns-2
-    returns-3)
+    returns-3
+    mark-by-requires
+    records-of-requires
+    sub-record-behind
+    record-behind-requires
+    returns-4)

@@ -1,61 +1,66 @@
--- Each return is a case of the definition: the place behind the record, then its kind.
+-- Each return is a case of the definition: the bytes that a record has at least, its length, its end.
 -- Assumes nothing.
-use Rattle.wire.proofs.Laws.{read16, unread16}
-use Rattle.streams.specs.Stream.{recordAt}
-use Rattle.streams.proofs.Walk.{behind-at, behind-beyond, behind-within}
+use mathlib.Core.Path.{sym}
+use Rattle.streams.specs.declared.stream.Found.the-variants.{Record, Missing}
+use Rattle.streams.proofs.Records.{record-out, record-few, record-long, record-in}
 use native.Mathlib.Omega.{arith}
 use borrow.Author.Needs.{needs}
 use Rattle.streams.proofs.stream.record_at.Statement.{statement}
 use Rattle.streams.proofs.stream.record_at.Tie as tie
 
-behind-record-requires : tie.Need-behind-record-requires
-behind-record-requires c κs = search needs
-
-enum-known-end : tie.Need-enum-known-end
-enum-known-end c = search needs
-
-enum-told : tie.Need-enum-told
-enum-told c = search needs
-
 returns : tie.Need-returns
-unfolding recordAt
-returns c = rw (behind-beyond _ _ (c .before .before .behind-record .ensures) (c .enum-told .given .1))
+returns c = sym (record-out _ Record Missing _ (omega arith))
 
-add-u16-at : tie.Need-add-u16-at
-add-u16-at c = omega (arith, behind-within _ _ (c .before .before .before .behind-record .ensures) _ (c .before .end .given .1))
-
-u16-at-requires : tie.Need-u16-at-requires
-u16-at-requires c κs = search needs
-
-enum-known-kind : tie.Need-enum-known-kind
-enum-known-kind c = search needs
-
-enum-told-2 : tie.Need-enum-told-2
-enum-told-2 c = search needs
+sub-if2 : tie.Need-sub-if2
+sub-if2 c = search needs
 
 returns-2 : tie.Need-returns-2
-unfolding recordAt
-returns-2 c = rw (behind-at _ _ (c .before .before .before .before .before .before .behind-record .ensures) _ (c .before .before .before .before .end .given .1), unread16 _ _ (c .before .before .u16-at .ensures) (c .enum-told2 .given .1))
+returns-2 c = sym (record-out _ Record Missing _ (omega arith))
 
-add-t7 : tie.Need-add-t7
-add-t7 c = omega (arith, behind-within _ _ (c .before .before .before .before .before .before .before .behind-record .ensures) _ (c .before .before .before .before .before .end .given .1))
+two-requires : tie.Need-two-requires
+two-requires c κs = omega arith
 
 returns-3 : tie.Need-returns-3
-unfolding recordAt
-returns-3 c = rw (behind-at _ _ (c .before .before .before .before .before .before .before .behind-record .ensures) _ (c .before .before .before .before .before .end .given .1), read16 _ _ (c .before .before .before .u16-at .ensures) _ (c .before .kind .given .1))
+returns-3 c = sym (record-few _ Record Missing _ (omega (arith, c .before .two .ensures)))
+
+add-end : tie.Need-add-end
+add-end c = omega arith
+
+cast-end : tie.Need-cast-end
+cast-end c = search needs
+
+add-end-2 : tie.Need-add-end-2
+add-end-2 c = omega arith
+
+returns-4 : tie.Need-returns-4
+returns-4 c = sym (record-long _ Record Missing _ _ (omega arith) (c .before .before .two .ensures) (omega arith) (omega arith))
+
+add-two : tie.Need-add-two
+add-two c = omega arith
+
+two-requires-2 : tie.Need-two-requires-2
+two-requires-2 c κs = omega arith
+
+add-t5 : tie.Need-add-t5
+add-t5 c = omega arith
+
+returns-5 : tie.Need-returns-5
+returns-5 c = sym (record-in _ Record Missing _ _ _ (omega arith) (c .before .before .before .two .ensures) (omega arith) (omega arith) (c .two2 .ensures))
 
 pub record-at-spec : {M : Type 1} → statement M
 record-at-spec =
     tie.close
     (tie.spec
-    behind-record-requires
-    enum-known-end
-    enum-told
     returns
-    add-u16-at
-    u16-at-requires
-    enum-known-kind
-    enum-told-2
+    sub-if2
     returns-2
-    add-t7
-    returns-3)
+    two-requires
+    returns-3
+    add-end
+    cast-end
+    add-end-2
+    returns-4
+    add-two
+    two-requires-2
+    add-t5
+    returns-5)
