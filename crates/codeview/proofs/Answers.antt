@@ -13,18 +13,12 @@ use Rattle.wire.proofs.Laws.{field-long, map-pick, map-field, map-name, withinN
 use Rattle.wire.specs.declared.name.Name.{Name}
 use Rattle.wire.specs.declared.name.NameRead.{NameRead}
 use Rattle.wire.specs.declared.name.NameRead.the-variants as nameRead
-use Rattle.wire.specs.declared.field.Field32.{Field32}
-use Rattle.wire.specs.declared.field.Field32.the-variants.{Value, Outside}
-use Rattle.codeview.specs.Record.{place, placed, names, entries, pointerMode, containing, memberClass, bit}
+use Rattle.codeview.specs.Record.{place, placed, names, entries, bit}
 use Rattle.codeview.specs.IdRecord.{functionParts}
 use Rattle.codeview.specs.declared.record.Entries.{Entries}
-use Rattle.codeview.specs.declared.record.PointerMode.{PointerMode}
-use Rattle.codeview.specs.declared.record.PointerMode.the-variants as mode
 use Rattle.codeview.specs.declared.record.UniqueName.{UniqueName}
 use Rattle.codeview.specs.declared.fields.Names.{Names}
 use Rattle.codeview.specs.declared.fields.Names.the-variants.{Both, Unended}
-use Rattle.codeview.specs.declared.types.ModeRead.{ModeRead}
-use Rattle.codeview.specs.declared.types.ModeRead.the-variants.{Known, Unknown}
 use Rattle.codeview.specs.declared.fields.EntriesRead.{EntriesRead}
 use Rattle.codeview.specs.declared.fields.EntriesRead.the-variants.{Whole, Cut}
 use Rattle.codeview.specs.declared.ids.PartsRead.{PartsRead}
@@ -57,18 +51,6 @@ map-entries : {A B : Type 0} (f : A → B) (base : ℕ) (b : List ℕ) (k : Entr
 unfolding entries
 map-entries f base b k z = simp (map-field f, map-pick f)
 
-map-mode : {A B : Type 0} (f : A → B) (m : ℕ) (k : PointerMode → A) (z : A) → f (pointerMode m k z) ≡ pointerMode m (λ e. f (k e)) (f z)
-unfolding pointerMode
-map-mode f m k z = simp (map-pick f)
-
-map-class : {A B : Type 0} (f : A → B) (m : PointerMode) (b : List ℕ) (k : ℕ → A) (z : A) → f (memberClass m b k z) ≡ memberClass m b (λ e. f (k e)) (f z)
-unfolding memberClass containing
-map-class f mode.Pointer b k z = refl
-map-class f mode.LValueReference b k z = refl
-map-class f mode.Member b k z = simp (map-field f)
-map-class f mode.MemberFunction b k z = simp (map-field f)
-map-class f mode.RValueReference b k z = refl
-
 map-parts : {A B : Type 0} (f : A → B) (base : ℕ) (b : List ℕ) (k : ℕ → ℕ → Name → A) (z : A) → f (functionParts base b k z) ≡ functionParts base b (λ o t n. f (k o t n)) (f z)
 unfolding functionParts
 map-parts f base b k z = simp (map-field f, map-name f)
@@ -89,14 +71,6 @@ abbrev byEntries : {A : Type 0} → EntriesRead → (Entries → A) → A → A
 byEntries (Whole l) k z = k l
 byEntries Cut k z = z
 
-abbrev byMode : {A : Type 0} → ModeRead → (PointerMode → A) → A → A
-byMode (Known m) k z = k m
-byMode Unknown k z = z
-
-abbrev byClass : {A : Type 0} → Field32 → (ℕ → A) → A → A
-byClass (Value x) k z = k x
-byClass Outside k z = z
-
 abbrev byParts : {A : Type 0} → PartsRead → (ℕ → ℕ → Name → A) → A → A
 byParts (parts.Whole o t n) k z = k o t n
 byParts parts.Cut k z = z
@@ -109,12 +83,6 @@ goesNames base p b at e k z = goes (λ (r : Names). byNames r k z) (map-names (�
 
 pub goesEntries : (base : ℕ) (b : List ℕ) {r : EntriesRead} → r ≡ entries base b Whole Cut → {A : Type 0} (k : Entries → A) (z : A) → entries base b k z ≡ byEntries r k z
 goesEntries base b e k z = goes (λ (r : EntriesRead). byEntries r k z) (map-entries (λ (r : EntriesRead). byEntries r k z) base b Whole Cut) e
-
-pub goesMode : (m : ℕ) {r : ModeRead} → r ≡ pointerMode m Known Unknown → {A : Type 0} (k : PointerMode → A) (z : A) → pointerMode m k z ≡ byMode r k z
-goesMode m e k z = goes (λ (r : ModeRead). byMode r k z) (map-mode (λ (r : ModeRead). byMode r k z) m Known Unknown) e
-
-pub goesClass : (m : PointerMode) (b : List ℕ) {r : Field32} → r ≡ memberClass m b Value Outside → {A : Type 0} (k : ℕ → A) (z : A) → memberClass m b k z ≡ byClass r k z
-goesClass m b e k z = goes (λ (r : Field32). byClass r k z) (map-class (λ (r : Field32). byClass r k z) m b Value Outside) e
 
 pub goesParts : (base : ℕ) (b : List ℕ) {r : PartsRead} → r ≡ functionParts base b parts.Whole parts.Cut → {A : Type 0} (k : ℕ → ℕ → Name → A) (z : A) → functionParts base b k z ≡ byParts r k z
 goesParts base b e k z = goes (λ (r : PartsRead). byParts r k z) (map-parts (λ (r : PartsRead). byParts r k z) base b parts.Whole parts.Cut) e

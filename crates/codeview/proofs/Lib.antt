@@ -1,3 +1,4 @@
 pub mod Answers
+pub mod KindLaws
 pub mod Tags
 pub mod Right

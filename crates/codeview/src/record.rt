@@ -6,8 +6,8 @@ use wire::name::Name;
 
 // A run of u32: where it starts and how many there are.
 pub struct Entries {
-    pub start: usize,
     pub count: u32,
+    pub start: usize,
 }
 
 pub enum PointerMode {
@@ -31,8 +31,8 @@ pub enum UniqueName {
 
 // A primitive: the code of its kind, and how many times it is pointed to (0 to 7).
 pub struct PrimitiveType {
-    pub code: u8,
     pub indirection: u32,
+    pub code: u8,
 }
 
 pub struct ModifierType {
@@ -45,9 +45,9 @@ pub struct ModifierType {
 // `class` is the containing class of a pointer to a member, and index 0 for any other.
 pub struct PointerType {
     pub underlying: TypeIndex,
-    pub mode: PointerMode,
     pub constant: bool,
     pub volatile: bool,
+    pub mode: PointerMode,
     pub size: u32,
     pub class: TypeIndex,
 }
@@ -61,11 +61,11 @@ pub struct ProcedureType {
 
 pub struct MemberFunctionType {
     pub result: TypeIndex,
-    pub class: TypeIndex,
-    pub this: TypeIndex,
     pub constructor: bool,
     pub parameters: u16,
     pub arguments: TypeIndex,
+    pub class: TypeIndex,
+    pub this: TypeIndex,
     pub adjustment: u32,
 }
 
@@ -86,8 +86,8 @@ pub struct ArrayType {
 
 pub struct ClassType {
     pub kind: ClassKind,
-    pub count: u16,
     pub forward: bool,
+    pub count: u16,
     pub fields: TypeIndex,
     pub derived: TypeIndex,
     pub shape: TypeIndex,
@@ -97,8 +97,8 @@ pub struct ClassType {
 }
 
 pub struct UnionType {
-    pub count: u16,
     pub forward: bool,
+    pub count: u16,
     pub fields: TypeIndex,
     pub size: u64,
     pub name: Name,
@@ -106,8 +106,8 @@ pub struct UnionType {
 }
 
 pub struct EnumerationType {
-    pub count: u16,
     pub forward: bool,
+    pub count: u16,
     pub underlying: TypeIndex,
     pub fields: TypeIndex,
     pub name: Name,

@@ -1,13 +1,18 @@
 // Type records: the fields of each kind, and what a type index stands for.
 ghost use mathlib.Core.Path.{_≡_};
-ghost use Prim.Native.Nat.{_+_, _/_, _%_, _<_, _^_};
+ghost use Prim.Native.Nat.{_+_, _/_, _%_, _≤_, _<_, _^_};
+ghost use mathlib.Core.Bool.{true, false};
 ghost use lib.ListN.{length};
-ghost use Rattle.codeview.specs.Record.{pointerMode, containing, memberClass, modifierOf, pointerOf, procedureOf, memberFunctionOf, argumentListOf, enumerateOf, arrayOf, classOf, unionOf, enumerationOf, typeOf};
-ghost use Rattle.codeview.specs.Read.{primitiveOf, readTypeIn, typeIn};
-ghost use Rattle.wire.specs.declared.field.Field32.the-variants as f32;
-ghost use Rattle.streams.specs.declared.refusal.Refusal.the-variants.{Malformed};
-ghost use Rattle.codeview.specs.declared.record.TypeRead.the-variants.{Refused};
-ghost use Rattle.codeview.specs.declared.types.ModeRead.the-variants.{Known, Unknown};
+ghost use lib.Dec.{leb};
+ghost use Rattle.wire.specs.Field.{pick, number};
+ghost use Rattle.primitives.specs.Primitive.{primitives, firstOf};
+ghost use Rattle.codeview.specs.Record.{pointerMode, modifierOf, pointerOf, procedureOf, memberFunctionOf, argumentListOf, enumerateOf, arrayOf, classOf, unionOf, enumerationOf, typeOf};
+ghost use Rattle.codeview.specs.Read.{readTypeIn, typeIn};
+ghost use Rattle.streams.specs.declared.refusal.Refusal.the-variants.{Malformed, Missing};
+ghost use Rattle.codeview.specs.declared.record.PointerMode.the-variants.{RValueReference};
+ghost use Rattle.codeview.specs.declared.record.TypeData.the-variants as type;
+ghost use Rattle.codeview.specs.declared.record.TypeRead.the-variants.{Good, Refused};
+ghost use Rattle.codeview.specs.Kinds.{NamedKind, pointerTo};
 use crate::fields::EntriesRead;
 use crate::fields::Names;
 use crate::fields::has_bit;
@@ -36,14 +41,8 @@ use streams::refusal::Refusal;
 use streams::refusal::StreamKind;
 use streams::stream::Found;
 use streams::stream::Stream;
-use wire::field::Field32;
 use wire::leaf::Leaf;
 use wire::name::NameRead;
-
-enum ModeRead {
-    Known(PointerMode),
-    Unknown,
-}
 
 fn malformed(index: u32) -> TypeRead
     ensures { λ r. ⌜ r ≡ Refused (Malformed index) ⌝ }
@@ -51,37 +50,15 @@ fn malformed(index: u32) -> TypeRead
     TypeRead::Refused(Refusal::Malformed(index))
 }
 
-fn pointer_mode(mode: u32) -> ModeRead
-    ensures { λ r. ⌜ r ≡ pointerMode mode Known Unknown ⌝ }
+fn pointer_mode(mode: u32) -> PointerMode
+    ensures { λ r. ⌜ r ≡ pointerMode mode (λ m. m) RValueReference ⌝ }
 {
     match mode {
-        0 => ModeRead::Known(PointerMode::Pointer),
-        1 => ModeRead::Known(PointerMode::LValueReference),
-        2 => ModeRead::Known(PointerMode::Member),
-        3 => ModeRead::Known(PointerMode::MemberFunction),
-        4 => ModeRead::Known(PointerMode::RValueReference),
-        _ => ModeRead::Unknown,
-    }
-}
-
-fn containing_class(b: &[u8]) -> Field32
-    ensures { λ r. ⌜ r ≡ containing (now (b .entry)) f32.Value f32.Outside ⌝ }
-{
-    if b.len() < 14 {
-        return Field32::Outside;
-    }
-    Field32::Value(u32_in(b, 8))
-}
-
-fn member_class(b: &[u8], mode: PointerMode) -> Field32
-    ensures { λ r. ⌜ r ≡ memberClass mode (now (b .entry)) f32.Value f32.Outside ⌝ }
-{
-    match mode {
-        PointerMode::Pointer => Field32::Value(0),
-        PointerMode::LValueReference => Field32::Value(0),
-        PointerMode::Member => containing_class(b),
-        PointerMode::MemberFunction => containing_class(b),
-        PointerMode::RValueReference => Field32::Value(0),
+        0 => return PointerMode::Pointer,
+        1 => return PointerMode::LValueReference,
+        2 => return PointerMode::Member,
+        3 => return PointerMode::MemberFunction,
+        _ => return PointerMode::RValueReference,
     }
 }
 
@@ -100,6 +77,21 @@ fn modifier(b: &[u8], base: usize, index: u32) -> TypeRead
     }))
 }
 
+// A pointer of a mode that is listed, and its class.
+fn pointer_to(b: &[u8], attributes: u32, mode: u32, class: u32) -> TypeRead
+    requires { ⌜ 4 ≤ length (now b) ⌝ }
+    ensures { λ r. ⌜ r ≡ pointerTo (number 4 (now (b .entry)) 0) attributes mode class ⌝ }
+{
+    TypeRead::Good(TypeData::Pointer(PointerType {
+        underlying: TypeIndex(u32_in(b, 0)),
+        constant: has_bit(attributes, 0x400),
+        volatile: has_bit(attributes, 0x200),
+        mode: pointer_mode(mode),
+        size: attributes / 8192 % 64,
+        class: TypeIndex(class),
+    }))
+}
+
 fn pointer(b: &[u8], base: usize, index: u32) -> TypeRead
     ensures { λ r. ⌜ r ≡ pointerOf (Refused (Malformed index)) base (now (b .entry)) ⌝ }
 {
@@ -107,20 +99,17 @@ fn pointer(b: &[u8], base: usize, index: u32) -> TypeRead
         return malformed(index);
     }
     let attributes = u32_in(b, 4);
-    let ModeRead::Known(mode) = pointer_mode(attributes / 32 % 8) else {
+    let mode = attributes / 32 % 8;
+    if 4 < mode {
         return malformed(index);
-    };
-    let Field32::Value(class) = member_class(b, mode) else {
-        return malformed(index);
-    };
-    TypeRead::Good(TypeData::Pointer(PointerType {
-        underlying: TypeIndex(u32_in(b, 0)),
-        mode,
-        constant: has_bit(attributes, 0x400),
-        volatile: has_bit(attributes, 0x200),
-        size: attributes / 8192 % 64,
-        class: TypeIndex(class),
-    }))
+    }
+    if mode / 2 == 1 {
+        if b.len() < 14 {
+            return malformed(index);
+        }
+        return pointer_to(b, attributes, mode, u32_in(b, 8));
+    }
+    pointer_to(b, attributes, mode, 0)
 }
 
 fn procedure(b: &[u8], base: usize, index: u32) -> TypeRead
@@ -296,44 +285,67 @@ fn enumeration(b: &[u8], base: usize, index: u32) -> TypeRead
     }))
 }
 
+// A record of the type stream of a kind with a name, or whose fields are not read.
+fn decode_named(b: &[u8], base: usize, kind: u16, index: u32) -> TypeRead
+    requires { ⌜ (base + length (now b) < 2 ^ 63) × NamedKind kind ⌝ }
+    ensures { λ r. ⌜ r ≡ typeOf (Refused (Malformed index)) base kind (now (b .entry)) ⌝ }
+{
+    match kind {
+        0x1502 => return enumerate(b, base, index),
+        0x1503 => return array(b, base, index),
+        0x1504 => return class(b, base, index, ClassKind::Class),
+        0x1505 => return class(b, base, index, ClassKind::Struct),
+        0x1519 => return class(b, base, index, ClassKind::Interface),
+        0x1506 => return union_type(b, base, index),
+        0x1507 => return enumeration(b, base, index),
+        0x1203 => return TypeRead::Good(TypeData::Unhandled(kind)),
+        0x1205 => return TypeRead::Good(TypeData::Unhandled(kind)),
+        0x1206 => return TypeRead::Good(TypeData::Unhandled(kind)),
+        _ => return TypeRead::Refused(Refusal::UnlistedKind(kind as u32)),
+    }
+}
+
 // A record of the type stream, by its kind: its fields stand at `base`.
 fn decode_type(b: &[u8], base: usize, kind: u16, index: u32) -> TypeRead
     requires { ⌜ base + length (now b) < 2 ^ 63 ⌝ }
     ensures { λ r. ⌜ r ≡ typeOf (Refused (Malformed index)) base kind (now (b .entry)) ⌝ }
 {
     match kind {
-        0x1001 => modifier(b, base, index),
-        0x1002 => pointer(b, base, index),
-        0x1008 => procedure(b, base, index),
-        0x1009 => member_function(b, base, index),
-        0x1201 => argument_list(b, base, index),
-        0x1502 => enumerate(b, base, index),
-        0x1503 => array(b, base, index),
-        0x1504 => class(b, base, index, ClassKind::Class),
-        0x1505 => class(b, base, index, ClassKind::Struct),
-        0x1519 => class(b, base, index, ClassKind::Interface),
-        0x1506 => union_type(b, base, index),
-        0x1507 => enumeration(b, base, index),
-        0x1203 => TypeRead::Good(TypeData::Unhandled(kind)),
-        0x1205 => TypeRead::Good(TypeData::Unhandled(kind)),
-        0x1206 => TypeRead::Good(TypeData::Unhandled(kind)),
-        _ => TypeRead::Refused(Refusal::UnlistedKind(kind as u32)),
+        0x1001 => return modifier(b, base, index),
+        0x1002 => return pointer(b, base, index),
+        0x1008 => return procedure(b, base, index),
+        0x1009 => return member_function(b, base, index),
+        0x1201 => return argument_list(b, base, index),
+        _ => {
+            let t = decode_named(b, base, kind, index);
+            return t;
+        }
     }
 }
 
-// A type index below 0x1000.
-fn primitive_type(index: u32) -> TypeRead
-    requires { ⌜ index < 0x1000 ⌝ }
-    ensures { λ r. ⌜ r ≡ primitiveOf index ⌝ }
+// Whether an index below 0x1000 is that of a primitive.
+fn is_primitive(index: u32) -> bool
+    ensures { λ r. ⌜ r ≡ pick (leb (index / 256) 7) (firstOf (index % 256) primitives (λ _. true) false) false ⌝ }
 {
     let indirection = index / 256;
-    let code = (index % 256) as u8;
     if 7 < indirection {
-        return TypeRead::Refused(Refusal::Missing(index));
+        return false;
     }
-    if primitives::is_listed(code) {
-        return TypeRead::Good(TypeData::Primitive(PrimitiveType { code, indirection }));
-    }
+    primitives::is_listed((index % 256) as u8)
+}
+
+fn primitive_type(index: u32) -> TypeRead
+    ensures { λ r. ⌜ r ≡ Good (type.Primitive (record { code = index % 256; indirection = index / 256 })) ⌝ }
+{
+    TypeRead::Good(TypeData::Primitive(PrimitiveType {
+        indirection: index / 256,
+        code: (index % 256) as u8,
+    }))
+}
+
+fn missing(index: u32) -> TypeRead
+    ensures { λ r. ⌜ r ≡ Refused (Missing index) ⌝ }
+{
     TypeRead::Refused(Refusal::Missing(index))
 }
 
@@ -343,15 +355,33 @@ pub fn type_at(s: &[u8], bounds: &[u32], places: &[u32], index: TypeIndex) -> Ty
 {
     let i = index.0;
     if i < 0x1000 {
-        return primitive_type(i);
+        if is_primitive(i) {
+            return primitive_type(i);
+        }
+        return missing(i);
     }
     let near = places_in(bounds, places, StreamKind::Types);
     let l = spacing_in(bounds, StreamKind::Types);
     let stream = stream_in(bounds, StreamKind::Types);
     match streams::places::look_up(s, near, l, stream, i) {
-        Found::Record { kind, start, end } => decode_type(&s[start..end], start, kind, i),
-        Found::Missing => TypeRead::Refused(Refusal::Missing(i)),
-        Found::CrossModule => TypeRead::Refused(Refusal::CrossModule(i)),
+        Found::Record { kind, start, end } => {
+            let b = &s[start..end];
+            if kind == 0x1002 {
+                return pointer(b, start, i);
+            }
+            match kind {
+                0x1001 => return modifier(b, start, i),
+                0x1008 => return procedure(b, start, i),
+                0x1009 => return member_function(b, start, i),
+                0x1201 => return argument_list(b, start, i),
+                _ => {
+                    let t = decode_named(b, start, kind, i);
+                    return t;
+                }
+            }
+        }
+        Found::Missing => return missing(i),
+        Found::CrossModule => return TypeRead::Refused(Refusal::CrossModule(i)),
     }
 }
 
@@ -362,8 +392,8 @@ pub fn type_in(s: &[u8], stream: Stream, at: usize, index: TypeIndex) -> TypeRea
     let i = index.0;
     let records = streams::stream::records_of(s, stream);
     match streams::stream::record_at(records, at) {
-        Found::Record { kind, start, end } => decode_type(&s[start..end], start, kind, i),
-        Found::Missing => TypeRead::Refused(Refusal::Missing(i)),
-        Found::CrossModule => TypeRead::Refused(Refusal::Missing(i)),
+        Found::Record { kind, start, end } => return decode_type(&s[start..end], start, kind, i),
+        Found::Missing => return missing(i),
+        Found::CrossModule => return missing(i),
     }
 }

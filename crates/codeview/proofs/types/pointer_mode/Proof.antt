@@ -1,7 +1,9 @@
--- Each mode that is listed, and no other.
+-- Each mode that is listed; any other is answered as the last.
 -- Assumes nothing.
 use borrow.Author.Tests.{ne-eqb}
+use Rattle.wire.specs.Field.{pick}
 use Rattle.codeview.specs.Record.{pointerMode}
+use Rattle.codeview.proofs.KindLaws.{last-mode}
 use Rattle.codeview.proofs.types.pointer_mode.Statement.{statement}
 use Rattle.codeview.proofs.types.pointer_mode.Tie as tie
 
@@ -23,11 +25,7 @@ returns-4 c = rw (c .match .keys4)
 
 returns-5 : tie.Need-returns-5
 unfolding pointerMode
-returns-5 c = rw (c .match .keys5)
-
-returns-6 : tie.Need-returns-6
-unfolding pointerMode
-returns-6 c = simp (ne-eqb _ _ (c .match .rest .0 .0 .0 .0 .1), ne-eqb _ _ (c .match .rest .0 .0 .0 .1), ne-eqb _ _ (c .match .rest .0 .0 .1), ne-eqb _ _ (c .match .rest .0 .1), ne-eqb _ _ (c .match .rest .1))
+returns-5 c = simp (ne-eqb _ _ (c .match .rest .0 .0 .0 .1), ne-eqb _ _ (c .match .rest .0 .0 .1), ne-eqb _ _ (c .match .rest .0 .1), ne-eqb _ _ (c .match .rest .1), last-mode)
 
 pub pointer-mode-spec : {M : Type 1} → statement M
-pointer-mode-spec = tie.close (tie.spec returns returns-2 returns-3 returns-4 returns-5 returns-6)
+pointer-mode-spec = tie.close (tie.spec returns returns-2 returns-3 returns-4 returns-5)

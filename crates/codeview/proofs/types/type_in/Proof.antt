@@ -34,23 +34,29 @@ part-decode-type-end c = omega (arith, record-within _ _ (c .before .before .bef
 decode-type-requires : tie.Need-decode-type-requires
 decode-type-requires c κs = let h = record-within _ _ (c .before .before .before .before .record-at .ensures) _ _ _ (c .before .before .kind .given .1) in let i = h .0 in omega (arith, part-end (now (c .before .before .before .before .before .before .before .args .s)) (c .before .before .kind .given .0 .1 .0) (c .before .before .kind .given .0 .1 .1 .0) (i, omega (arith, h .1, ap (λ (l : List ℕ). length l) (c .before .before .before .before .before .records-of .ensures), length-take (c .before .before .before .before .before .before .before .args .stream .stop) (now (c .before .before .before .before .before .before .before .args .s)))), h .1, ap (λ (l : List ℕ). length l) (c .before .before .before .before .before .records-of .ensures), length-take (c .before .before .before .before .before .before .before .args .stream .stop) (now (c .before .before .before .before .before .before .before .args .s)), c .before .before .before .before .before .before .before .good)
 
-enum-told : tie.Need-enum-told
-enum-told c = search needs
-
-enum-told-2 : tie.Need-enum-told-2
-enum-told-2 c = search needs
-
 returns : tie.Need-returns
 unfolding typeIn part
 returns c = rw (← c .before .before .before .before .before .before .records-of .ensures, record-by _ _ (c .before .before .before .before .before .record-at .ensures) (c .before .before .before .kind .given .1), c .decode-type .ensures)
 
+enum-told : tie.Need-enum-told
+enum-told c = search needs
+
+missing-requires : tie.Need-missing-requires
+missing-requires c κs = search needs
+
 returns-2 : tie.Need-returns-2
 unfolding typeIn
-returns-2 c = rw (← c .before .before .before .records-of .ensures, record-by _ _ (c .before .before .record-at .ensures) (c .enum-told .given .1))
+returns-2 c = rw (← c .before .before .before .before .records-of .ensures, record-by _ _ (c .before .before .before .record-at .ensures) (c .before .enum-told .given .1), c .missing .ensures)
+
+enum-told-2 : tie.Need-enum-told-2
+enum-told-2 c = search needs
+
+missing-requires-2 : tie.Need-missing-requires-2
+missing-requires-2 c κs = search needs
 
 returns-3 : tie.Need-returns-3
 unfolding typeIn
-returns-3 c = rw (← c .before .before .before .records-of .ensures, record-by _ _ (c .before .before .record-at .ensures) (c .enum-told2 .given .1))
+returns-3 c = rw (← c .before .before .before .before .records-of .ensures, record-by _ _ (c .before .before .before .record-at .ensures) (c .before .enum-told2 .given .1), c .missing2 .ensures)
 
 pub type-in-spec : {M : Type 1} → statement M
 type-in-spec =
@@ -63,8 +69,10 @@ type-in-spec =
     part-decode-type-start
     part-decode-type-end
     decode-type-requires
-    enum-told
-    enum-told-2
     returns
+    enum-told
+    missing-requires
     returns-2
+    enum-told-2
+    missing-requires-2
     returns-3)
