@@ -2,11 +2,13 @@
 use Prim.Native.Nat.{ℕ, zero, suc, _+_, _<_, _≤_}
 use mathlib.Core.Path.{_≡_, refl, ap, sym, _∙_}
 use mathlib.Core.List.{List, [], _∷_, _++_, append-assoc, map}
-use mathlib.Core.Bool.{Bool, true, false, not}
+use mathlib.Core.Bool.{Bool, true, false, not, _&&_}
 use lib.ListN.{length, drop, getD, drop-of-length-le}
 use lib.Seq.{drop-cons}
 use native.Mathlib.Numerals.{add-one}
 use native.Mathlib.Omega.{arith}
+use lib.Dec.{eqb}
+use borrow.Author.Tests.{eq-eqb, ne-eqb}
 use Rattle.wire.specs.Field.{pick}
 use Rattle.wire.specs.Text.{bytes}
 use Rattle.codeview.specs.declared.record.PointerMode.{PointerMode}
@@ -37,6 +39,15 @@ pub primitive-pointed : (c : Settings) (constant space : Bool) (code n : ℕ) �
 unfolding primitiveText
 primitive-pointed c constant space code zero e h = absurd (h refl)
 primitive-pointed c constant space code (suc n) e h = rw e
+
+-- The same behind a const that is written only where nothing is pointed to.
+pub primitive-bare : (c : Settings) (constant first : Bool) (code n : ℕ) → first ≡ (eqb n 0 && constant) → n ≡ 0
+    → writing (pick first (bytes "const ") [] ++ primitiveName code) ≡ writing (primitiveText c constant code n)
+primitive-bare c constant first code n e h = rw (e, eq-eqb n 0 h) (primitive-itself c constant code n h)
+
+pub primitive-aimed : (c : Settings) (constant first space : Bool) (code n : ℕ) → first ≡ (eqb n 0 && constant) → space ≡ c .spacePointer → (n ≡ 0 → ⊥)
+    → writing (pick first (bytes "const ") [] ++ (primitiveName code ++ (pick constant (bytes " const") [] ++ (pick space (bytes " ") [] ++ bytes "*")))) ≡ writing (primitiveText c constant code n)
+primitive-aimed c constant first space code n e f h = rw (e, ne-eqb n 0 h) (primitive-pointed c constant space code n f h)
 
 -- A name alone, and behind its word.
 pub named-alone : (c : Settings) (only : Bool) (word name : List ℕ) → only ≡ c .nameOnly → only ≡ true → writing name ≡ writing (behindWord c word name)

@@ -1,7 +1,9 @@
 -- What the writers here write, where the rules have no name for it.
-use Prim.Native.Nat.{ℕ}
+use Prim.Native.Nat.{ℕ, _-_}
 use mathlib.Core.Bool.{Bool, _||_, _&&_, not}
 use mathlib.Core.List.{List, [], _++_}
+use lib.ListN.{getD}
+use lib.Dec.{ltb}
 use Rattle.wire.specs.Field.{pick}
 use Rattle.wire.specs.Text.{bytes}
 use Rattle.rules.specs.Flags.{Settings}
@@ -24,3 +26,7 @@ levelText c free signed l =
     ++ (pick (spaced (c .spacePointer) free signed (l .pointee)) (bytes " ") []
     ++ (sign (l .mode)
     ++ pick (l .constant) (bytes " const") []))
+
+-- The byte size of what a level of an array is made of: that of the level below it, or below the lowest the size that is given.
+unfoldable pub inside : List ℕ → ℕ → ℕ → ℕ → ℕ
+inside items left size at = pick (ltb left at) (getD items (at - 1) 0) size

@@ -1,9 +1,9 @@
 // What the writers of types share, and opens no index: the entries of a list, when a result is written, the names of records, and the signs behind a text.
 ghost use mathlib.Core.Path.{_≡_};
 ghost use mathlib.Core.Bool.{true, _||_, _&&_};
-ghost use Prim.Native.Nat.{_+_, _*_};
+ghost use Prim.Native.Nat.{_+_, _*_, _≤_, _<_};
 ghost use lib.Dec.{eqb};
-ghost use lib.ListN.{getD};
+ghost use lib.ListN.{getD, length};
 ghost use mathlib.Core.List.{[]};
 ghost use Rattle.wire.specs.Field.{number, pick};
 ghost use Rattle.rules.specs.Types.{comma};
@@ -41,6 +41,20 @@ fn byte_or_zero(s: &[u8], at: usize) -> u8
     0
 }
 
+fn wide(b: u8) -> u32
+    ensures { λ r. ⌜ (r ≡ b) × (r < 256) ⌝ }
+{
+    b as u32
+}
+
+// An entry that is wholly inside: its bytes are read at once.
+fn entry_inside(s: &[u8], at: usize) -> u32
+    requires { ⌜ at + 4 ≤ length (now s) ⌝ }
+    ensures { λ r. ⌜ r ≡ number 4 (now (s .entry)) at ⌝ }
+{
+    wide(s[at]) + 256 * (wide(s[at + 1]) + 256 * (wide(s[at + 2]) + 256 * wide(s[at + 3])))
+}
+
 // The entry of a list by its number; what lies outside the stream counts as zeros.
 pub fn entry_at(s: &[u8], list: Entries, i: u32) -> u32
     ensures { λ r. ⌜ r ≡ number 4 (now (s .entry)) (list .start + 4 * i) ⌝ }
@@ -50,6 +64,9 @@ pub fn entry_at(s: &[u8], list: Entries, i: u32) -> u32
         return 0;
     }
     let at = start + 4 * (i as usize);
+    if at + 4 <= s.len() {
+        return entry_inside(s, at);
+    }
     let a = byte_or_zero(s, at) as u32;
     let b = byte_or_zero(s, at + 1) as u32;
     let c = byte_or_zero(s, at + 2) as u32;

@@ -21,7 +21,9 @@ fn around(out: &mut [u8], p: Pen, before: &[u8], n: u32, behind: &[u8]) -> Pen
 pub fn missing(out: &mut [u8], p: Pen, index: u32) -> Pen
     ensures { λ r. ⌜ Wrote (page (now (out .entry)) p) (writing (missingMark index)) (page (now (out .exit)) r) ⌝ }
 {
-    around(out, p, b"<missing type 0x", index, b">")
+    let a = pen::text(out, p, b"<missing type 0x");
+    let b = hex(out, a, index);
+    pen::text(out, b, b">")
 }
 
 pub fn unimplemented(out: &mut [u8], p: Pen, kind: u32) -> Pen

@@ -4,6 +4,7 @@ ghost use Rattle.rules.specs.Text.{primitiveText, classText};
 ghost use Rattle.pen.specs.Page.{page, Wrote, writing};
 ghost use Rattle.context.specs.Context.{settingsOf};
 ghost use Rattle.leaf_writers.specs.Signs.{behindWord};
+use crate::fragments::both;
 use crate::names::emit_kind;
 use crate::settings::name_only;
 use crate::settings::space_pointer;
@@ -23,12 +24,12 @@ pub fn emit_primitive(
 ) -> Pen
     ensures { λ r. ⌜ Wrote (page (now (out .entry)) p) (writing (primitiveText (settingsOf call) constant code indirection)) (page (now (out .exit)) r) ⌝ }
 {
+    let q = text_if(out, p, both(indirection == 0, constant), b"const ");
+    let k = emit_kind(out, q, code);
     if indirection == 0 {
-        let q = text_if(out, p, constant, b"const ");
-        return emit_kind(out, q, code);
+        return k;
     }
-    let q = emit_kind(out, p, code);
-    let r = text_if(out, q, constant, b" const");
+    let r = text_if(out, k, constant, b" const");
     let t = text_if(out, r, space_pointer(call), b" ");
     pen::text(out, t, b"*")
 }

@@ -16,6 +16,15 @@ mul-at c = search needs
 add-at : tie.Need-add-at
 add-at c = search needs
 
+add-if2 : tie.Need-add-if2
+add-if2 c = search needs
+
+entry-inside-requires : tie.Need-entry-inside-requires
+entry-inside-requires c κs = search needs
+
+returns-2 : tie.Need-returns-2
+returns-2 c = search needs
+
 byte-or-zero-requires : tie.Need-byte-or-zero-requires
 byte-or-zero-requires c κs = search needs
 
@@ -67,8 +76,8 @@ mul-result-3 c = search needs
 add-result-3 : tie.Need-add-result-3
 add-result-3 c = search needs
 
-returns-2 : tie.Need-returns-2
-returns-2 c = number-four _ _ _ _ _ _ (c .before .before .before .byte-or-zero .ensures) (c .before .before .byte-or-zero2 .ensures) (c .before .byte-or-zero3 .ensures) (c .byte-or-zero4 .ensures)
+returns-3 : tie.Need-returns-3
+returns-3 c = number-four _ _ _ _ _ _ (c .before .before .before .byte-or-zero .ensures) (c .before .before .byte-or-zero2 .ensures) (c .before .byte-or-zero3 .ensures) (c .byte-or-zero4 .ensures)
 
 pub entry-at-spec : {M : Type 1} → statement M
 entry-at-spec =
@@ -77,6 +86,9 @@ entry-at-spec =
     returns
     mul-at
     add-at
+    add-if2
+    entry-inside-requires
+    returns-2
     byte-or-zero-requires
     cast-a
     add-byte-or-zero
@@ -94,4 +106,4 @@ entry-at-spec =
     add-result-2
     mul-result-3
     add-result-3
-    returns-2)
+    returns-3)
