@@ -18,7 +18,7 @@ use Rattle.primitives.specs.Primitive.{primitives, firstOf, listed, nowhere}
 use Rattle.primitives.specs.declared.PrimitiveKind.{PrimitiveKind}
 use Rattle.primitives.specs.declared.PrimitiveSearch.{PrimitiveSearch}
 use Rattle.interpreter.specs.Trace.{tr, refused, count}
-use Rattle.rules.specs.Text.{digit, numeral, functionName, primitiveName, missingMark, unimplementedMark}
+use Rattle.rules.specs.Text.{digit, functionName, primitiveName, missingMark, unimplementedMark}
 use Rattle.rules.specs.Record.{nameAt}
 use Rattle.pen.specs.Page.{writing}
 use Rattle.leaf_writers.specs.Marks.{markTrace}
@@ -30,21 +30,6 @@ digit-small n h = simp (lt-ltb _ _ h)
 pub digit-large : (n : ℕ) → 10 ≤ n → 87 + n ≡ digit n
 unfolding digit
 digit-large n h = simp (le-ltb _ _ h)
-
--- A number by its digits.
-pub numeral-none : (b l n : ℕ) → l ≡ 0 → writing [] ≡ writing (numeral b l n)
-unfolding numeral
-numeral-none b l n h = rw h
-
-pub numeral-one : (b l n x : ℕ) → (l ≡ 0 → ⊥) → n < b → x ≡ digit n → writing (x ∷ []) ≡ writing (numeral b l n)
-unfolding numeral
-numeral-one b zero n x h k e = absurd (h refl)
-numeral-one b (suc l) n x h k e = simp (lt-ltb _ _ k, e)
-
-pub numeral-more : (b l n x : ℕ) → (l ≡ 0 → ⊥) → b ≤ n → x ≡ digit (n % b) → writing (numeral b (l - 1) (n / b) ++ x ∷ []) ≡ writing (numeral b l n)
-unfolding numeral
-numeral-more b zero n x h k e = absurd (h refl)
-numeral-more b (suc l) n x h k e = let d : suc l - 1 ≡ l = omega arith in simp (le-ltb _ _ k, e, d)
 
 -- The cases of a refusal but 7 and 8.
 abbrev pub noMark : List ℕ
