@@ -54,7 +54,7 @@ record Gave (buf : List ℕ) (limit : ℕ) (t : Trace Refusal) (b : List ℕ) (q
   bytes : List ℕ
   many : ℕ
   is : within limit t ≡ answered (readPen q .stop) bytes many
-  whole : readPen q .stop ≡ stop.No → Ran buf limit bytes b (readPen q)
+  whole : readPen q .stop ≡ stop.No → Ran buf limit bytes b q
 
 gave : (buf : List ℕ) (limit : ℕ) (t : Trace Refusal) (b : List ℕ) (q : Pen) → Wrote (page buf (started limit)) t (page b q) → Gave buf limit t b q
 unfolding within started
@@ -62,11 +62,11 @@ gave buf limit (tr bs e ns c) b q w = by (decLe (length bs) limit)
   where
     by : Dec (length bs ≤ limit) → Gave buf limit (tr bs e ns c) b q
     by (yes h) =
-        let f = ran-fits buf limit bs e ns c b (readPen q) h w in
+        let f = ran-fits buf limit bs e ns c b q h w in
         record { bytes = bs; many = c .opened; is = rw (le-leb (length bs) limit h, f .0) (answer-stop e bs (c .opened)); whole = f .1 }
     by (no h) =
         let l : limit < length bs = omega arith in
-        let f = ran-over buf limit bs e ns c b (readPen q) l w in
+        let f = ran-over buf limit bs e ns c b q l w in
         record { bytes = bs; many = c .opened; is = rw (lt-leb (length bs) limit l, f) refl; whole = λ n. absurd (let z : _≡_ {A = ℕ} 0 1 = cc (f, n) in omega arith) }
 
 module _ (buf : List ℕ) (t : Trace Refusal) (b : List ℕ) (q : Pen) where
