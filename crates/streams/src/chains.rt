@@ -12,6 +12,7 @@ use crate::places::entries;
 use crate::places::stride_for;
 use crate::places::wide;
 use crate::refusal::StreamKind;
+use crate::short::short_chains;
 use crate::stream::Head;
 use crate::stream::Place;
 use crate::stream::Stream;
@@ -385,7 +386,18 @@ fn four_chains(s: &[u8], count: u32, places: &mut [u32]) -> Chains
     chained(s, count, stride, room, x, y, z, places)
 }
 
-// The check of a stream, which notes places: in four chains where there are many records, and else, or where the chains do not meet, in one.
+// The chains that suit so many records.
+fn chains_for(s: &[u8], count: u32, places: &mut [u32]) -> Chains
+    requires { ⌜ length (now s) < 0x1000_0000 ⌝ }
+    ensures { λ r. ⌜ ChainedFor (now (s .entry)) count (now (places .entry)) (now (places .exit)) r ⌝ }
+{
+    if count < 192 {
+        return short_chains(s, count, places);
+    }
+    four_chains(s, count, places)
+}
+
+// The check of a stream, which notes places: in four chains where there are some records, and else, or where the chains do not meet, in one.
 pub fn check_stream(s: &[u8], which: StreamKind, places: &mut [u32]) -> NotedCheck
     ensures { λ r. ⌜ NotedFor which (now (s .entry)) (now (places .entry)) (now (places .exit)) r ⌝ }
 {
@@ -393,14 +405,14 @@ pub fn check_stream(s: &[u8], which: StreamKind, places: &mut [u32]) -> NotedChe
         return check_with_stride(s, which, 0, places);
     };
     let count = end - first;
-    if count < 256 {
+    if count < 48 {
         return check_with_stride(s, which, 0, places);
     }
-    match four_chains(&s[..stop], count, places) {
-        Chains::Met(spacing) => NotedCheck {
-            check: StreamCheck::Good(Stream { first, end, stop }),
-            spacing,
-        },
-        Chains::Apart => check_with_stride(s, which, 0, places),
+    let Chains::Met(spacing) = chains_for(&s[..stop], count, places) else {
+        return check_with_stride(s, which, 0, places);
+    };
+    NotedCheck {
+        check: StreamCheck::Good(Stream { first, end, stop }),
+        spacing,
     }
 }

@@ -41,11 +41,11 @@ same-length-2 c = c .before .before .check-with-stride2 .ensures .sized
 returns-2 : tie.Need-returns-2
 returns-2 c = c .before .before .check-with-stride2 .ensures
 
-slice-aggregate-four-chains : tie.Need-slice-aggregate-four-chains
-slice-aggregate-four-chains c = sym (length-take-le _ _ (header-within _ (c .before .before .before .before .before .header-of .ensures) _ _ _ (c .before .before .before .first .given .1) .1))
+slice-aggregate-chains-for : tie.Need-slice-aggregate-chains-for
+slice-aggregate-chains-for c = sym (length-take-le _ _ (header-within _ (c .before .before .before .before .before .header-of .ensures) _ _ _ (c .before .before .before .first .given .1) .1))
 
-four-chains-requires : tie.Need-four-chains-requires
-four-chains-requires c κs = omega (arith, length-take (c .before .before .before .before .first .given .0 .1 .1 .0) (now (c .before .before .before .before .before .before .before .before .before .args .s)), header-small _ (c .before .before .before .before .before .before .header-of .ensures) _ _ _ (c .before .before .before .before .first .given .1))
+chains-for-requires : tie.Need-chains-for-requires
+chains-for-requires c κs = omega (arith, length-take (c .before .before .before .before .first .given .0 .1 .1 .0) (now (c .before .before .before .before .before .before .before .before .before .args .s)), header-small _ (c .before .before .before .before .before .before .header-of .ensures) _ _ _ (c .before .before .before .before .first .given .1))
 
 enum-known-spacing : tie.Need-enum-known-spacing
 enum-known-spacing c = search needs
@@ -57,16 +57,16 @@ check-with-stride-requires-3 : tie.Need-check-with-stride-requires-3
 check-with-stride-requires-3 c κs = search needs
 
 same-length-3 : tie.Need-same-length-3
-same-length-3 c = c .before .before .before .before .before .four-chains .ensures .sized
+same-length-3 c = c .before .before .check-with-stride3 .ensures .sized ∙ c .before .before .before .before .before .before .before .before .chains-for .ensures .sized
 
 returns-3 : tie.Need-returns-3
-returns-3 c = noted-good _ _ (c .before .before .before .before .before .before .before .before .before .before .before .before .header-of .ensures) _ _ (c .before .before .before .before .before .four-chains .ensures .sized) _ _ _ _ (c .before .before .before .before .before .before .before .before .before .before .first .given .1) (c .before .before .before .before .before .four-chains .ensures .tiles _ (c .before .spacing .given .1)) (c .before .before .before .before .before .four-chains .ensures .right _ (c .before .spacing .given .1))
+returns-3 c = noted-after _ _ _ _ _ _ (c .before .before .before .before .before .before .before .before .chains-for .ensures .sized) (c .before .before .check-with-stride3 .ensures)
 
 same-length-4 : tie.Need-same-length-4
-same-length-4 c = c .before .before .check-with-stride3 .ensures .sized ∙ c .before .before .before .before .before .before .before .before .four-chains .ensures .sized
+same-length-4 c = c .before .before .before .before .before .chains-for .ensures .sized
 
 returns-4 : tie.Need-returns-4
-returns-4 c = noted-after _ _ _ _ _ _ (c .before .before .before .before .before .before .before .before .four-chains .ensures .sized) (c .before .before .check-with-stride3 .ensures)
+returns-4 c = noted-good _ _ (c .before .before .before .before .before .before .before .before .before .before .before .before .header-of .ensures) _ _ (c .before .before .before .before .before .chains-for .ensures .sized) _ _ _ _ (c .before .before .before .before .before .before .before .before .before .before .first .given .1) (c .before .before .before .before .before .chains-for .ensures .tiles _ (c .before .spacing .given .1)) (c .before .before .before .before .before .chains-for .ensures .right _ (c .before .spacing .given .1))
 
 pub check-stream-spec : {M : Type 1} → statement M
 check-stream-spec =
@@ -82,8 +82,8 @@ check-stream-spec =
     check-with-stride-requires-2
     same-length-2
     returns-2
-    slice-aggregate-four-chains
-    four-chains-requires
+    slice-aggregate-chains-for
+    chains-for-requires
     enum-known-spacing
     enum-told-2
     check-with-stride-requires-3
