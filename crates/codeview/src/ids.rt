@@ -17,9 +17,7 @@ use crate::record::IdData;
 use crate::record::IdRead;
 use crate::record::MemberFunctionId;
 use crate::record::StringId;
-use streams::bounds::places_in;
-use streams::bounds::spacing_in;
-use streams::bounds::stream_in;
+use streams::bounds::look_up_in;
 use streams::refusal::Refusal;
 use streams::refusal::StreamKind;
 use streams::stream::Found;
@@ -128,10 +126,7 @@ pub fn id_at(s: &[u8], bounds: &[u32], places: &[u32], index: IdIndex) -> IdRead
     ensures { λ r. ⌜ r ≡ readIdIn (now (s .entry)) (now (bounds .entry)) (now (places .entry)) (index .0) ⌝ }
 {
     let i = index.0;
-    let near = places_in(bounds, places, StreamKind::Ids);
-    let l = spacing_in(bounds, StreamKind::Ids);
-    let stream = stream_in(bounds, StreamKind::Ids);
-    match streams::places::look_up(s, near, l, stream, i) {
+    match look_up_in(s, bounds, places, StreamKind::Ids, i) {
         Found::Record { kind, start, end } => decode_id(&s[start..end], start, kind, i),
         Found::Missing => IdRead::Refused(Refusal::Missing(i)),
         Found::CrossModule => IdRead::Refused(Refusal::CrossModule(i)),

@@ -7,7 +7,7 @@ ghost use lib.Dec.{leb};
 ghost use Rattle.wire.specs.Field.{pick, number};
 ghost use Rattle.primitives.specs.Primitive.{primitives, firstOf};
 ghost use Rattle.codeview.specs.Record.{pointerMode, modifierOf, pointerOf, procedureOf, memberFunctionOf, argumentListOf, enumerateOf, arrayOf, classOf, unionOf, enumerationOf, typeOf};
-ghost use Rattle.codeview.specs.Read.{readTypeIn, typeIn};
+ghost use Rattle.codeview.specs.Read.{readTypeIn};
 ghost use Rattle.streams.specs.declared.refusal.Refusal.the-variants.{Malformed, Missing};
 ghost use Rattle.codeview.specs.declared.record.PointerMode.the-variants.{RValueReference};
 ghost use Rattle.codeview.specs.declared.record.TypeData.the-variants as type;
@@ -34,13 +34,10 @@ use crate::record::ProcedureType;
 use crate::record::TypeData;
 use crate::record::TypeRead;
 use crate::record::UnionType;
-use streams::bounds::places_in;
-use streams::bounds::spacing_in;
-use streams::bounds::stream_in;
+use streams::bounds::look_up_in;
 use streams::refusal::Refusal;
 use streams::refusal::StreamKind;
 use streams::stream::Found;
-use streams::stream::Stream;
 use wire::leaf::Leaf;
 use wire::name::NameRead;
 
@@ -203,7 +200,7 @@ fn array(b: &[u8], base: usize, index: u32) -> TypeRead
     }))
 }
 
-fn class(b: &[u8], base: usize, index: u32, kind: ClassKind) -> TypeRead
+pub fn class(b: &[u8], base: usize, index: u32, kind: ClassKind) -> TypeRead
     requires { ⌜ base + length (now b) < 2 ^ 63 ⌝ }
     ensures { λ r. ⌜ r ≡ classOf (Refused (Malformed index)) base kind (now (b .entry)) ⌝ }
 {
@@ -235,7 +232,7 @@ fn class(b: &[u8], base: usize, index: u32, kind: ClassKind) -> TypeRead
     }))
 }
 
-fn union_type(b: &[u8], base: usize, index: u32) -> TypeRead
+pub fn union_type(b: &[u8], base: usize, index: u32) -> TypeRead
     requires { ⌜ base + length (now b) < 2 ^ 63 ⌝ }
     ensures { λ r. ⌜ r ≡ unionOf (Refused (Malformed index)) base (now (b .entry)) ⌝ }
 {
@@ -305,24 +302,6 @@ fn decode_named(b: &[u8], base: usize, kind: u16, index: u32) -> TypeRead
     }
 }
 
-// A record of the type stream, by its kind: its fields stand at `base`.
-fn decode_type(b: &[u8], base: usize, kind: u16, index: u32) -> TypeRead
-    requires { ⌜ base + length (now b) < 2 ^ 63 ⌝ }
-    ensures { λ r. ⌜ r ≡ typeOf (Refused (Malformed index)) base kind (now (b .entry)) ⌝ }
-{
-    match kind {
-        0x1001 => return modifier(b, base, index),
-        0x1002 => return pointer(b, base, index),
-        0x1008 => return procedure(b, base, index),
-        0x1009 => return member_function(b, base, index),
-        0x1201 => return argument_list(b, base, index),
-        _ => {
-            let t = decode_named(b, base, kind, index);
-            return t;
-        }
-    }
-}
-
 // Whether an index below 0x1000 is that of a primitive.
 fn is_primitive(index: u32) -> bool
     ensures { λ r. ⌜ r ≡ pick (leb (index / 256) 7) (firstOf (index % 256) primitives (λ _. true) false) false ⌝ }
@@ -360,10 +339,7 @@ pub fn type_at(s: &[u8], bounds: &[u32], places: &[u32], index: TypeIndex) -> Ty
         }
         return missing(i);
     }
-    let near = places_in(bounds, places, StreamKind::Types);
-    let l = spacing_in(bounds, StreamKind::Types);
-    let stream = stream_in(bounds, StreamKind::Types);
-    match streams::places::look_up(s, near, l, stream, i) {
+    match look_up_in(s, bounds, places, StreamKind::Types, i) {
         Found::Record { kind, start, end } => {
             let b = &s[start..end];
             if kind == 0x1002 {
@@ -382,18 +358,5 @@ pub fn type_at(s: &[u8], bounds: &[u32], places: &[u32], index: TypeIndex) -> Ty
         }
         Found::Missing => return missing(i),
         Found::CrossModule => return TypeRead::Refused(Refusal::CrossModule(i)),
-    }
-}
-
-// The same where the place of the index's record is known.
-pub fn type_in(s: &[u8], stream: Stream, at: usize, index: TypeIndex) -> TypeRead
-    ensures { λ r. ⌜ r ≡ typeIn (now (s .entry)) stream at (index .0) ⌝ }
-{
-    let i = index.0;
-    let records = streams::stream::records_of(s, stream);
-    match streams::stream::record_at(records, at) {
-        Found::Record { kind, start, end } => return decode_type(&s[start..end], start, kind, i),
-        Found::Missing => return missing(i),
-        Found::CrossModule => return missing(i),
     }
 }
