@@ -3,7 +3,7 @@ use Prim.Native.Nat.{ℕ, zero, suc, _+_, _*_, _-_, _≤_, _<_}
 use native.Mathlib.Nat.{add-assoc}
 use native.Mathlib.Omega.{arith}
 use mathlib.Core.Path.{_≡_, refl, _∙_, ap}
-use mathlib.Core.Bool.{Bool, true, false}
+use mathlib.Core.Bool.{Bool, true, false, _||_}
 use mathlib.Core.List.{List}
 use lib.ListN.{length, getD, take, drop, length-take}
 use lib.Seq.{getD-take, getD-drop}
@@ -208,6 +208,15 @@ module _ (s : List ℕ) (own : List ℕ) (f : Refusal) (base : ℕ) (b : List �
       all-pick P (eqb kind 0x1205) _ _ (λ e. record { is = λ o. refl }) (λ e.
       all-pick P (eqb kind 0x1206) _ _ (λ e. record { is = λ o. refl }) (λ e.
       stops (UnlistedKind kind))))))))))))))))
+
+-- So a record of none of the four kinds says nothing.
+pub no-layout : (s own : List ℕ) (f : Refusal) (base : ℕ) (b : List ℕ) (kind : ℕ) → eqb kind 0x1504 ≡ false → eqb kind 0x1505 ≡ false → eqb kind 0x1506 ≡ false → eqb kind 0x1519 ≡ false
+    → FullOf s (typeOf (Refused f) base kind b) own Other
+unfolding layoutKind
+no-layout s own f base b kind h i j k = record-passes s own f base b kind (λ l. absurd (never (rw (h, i, j, k) at l)))
+  where
+    never : false || (false || (false || false)) ≡ true → ⊥
+    never e = let z : _≡_ {A = ℕ} 0 1 = cc in omega arith
 
 -- A number of a part is the number at its place in the whole.
 number-take : (w n : ℕ) (s : List ℕ) (at : ℕ) → at + w ≤ n → number w (take n s) at ≡ number w s at

@@ -6,9 +6,6 @@ use codeview::record::TypeData;
 use codeview::record::TypeRead;
 use codeview::types::type_at;
 use context::levels::Dimensions;
-use context::levels::no_dimensions;
-use context::levels::push_dimension;
-use context::levels::room;
 use streams::refusal::Refusal;
 
 // How the levels of an array end: at a base, at a 33rd level, or at a record that could not be read.
@@ -35,25 +32,40 @@ pub fn get_array_info(
 ) -> ArrayInfo
     ensures { λ r. ⌜ Info (now (types .entry)) (near (now (bounds .entry)) (now (places .entry))) (element .0) size r ⌝ }
 {
-    let mut sizes = push_dimension(no_dimensions(), size);
+    let mut items: [u64; 32] = [0; 32];
+    let mut left: usize = 31;
+    items[31] = size;
     let mut base = element;
     loop {
         match type_at(types, bounds, places, base) {
             TypeRead::Good(t) => {
                 let TypeData::Array(a) = t else {
                     let end = ArrayEnd::Base(t);
-                    return ArrayInfo { sizes, base, end };
+                    return ArrayInfo {
+                        sizes: Dimensions { items, left },
+                        base,
+                        end,
+                    };
                 };
-                if room(sizes) == 0 {
+                if left == 0 {
                     let end = ArrayEnd::TooLong;
-                    return ArrayInfo { sizes, base, end };
+                    return ArrayInfo {
+                        sizes: Dimensions { items, left },
+                        base,
+                        end,
+                    };
                 }
-                sizes = push_dimension(sizes, a.size);
+                left -= 1;
+                items[left] = a.size;
                 base = a.element;
             }
             TypeRead::Refused(f) => {
                 let end = ArrayEnd::Refused(f);
-                return ArrayInfo { sizes, base, end };
+                return ArrayInfo {
+                    sizes: Dimensions { items, left },
+                    base,
+                    end,
+                };
             }
         }
     }

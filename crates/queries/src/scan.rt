@@ -1,17 +1,23 @@
 // The size of a forward reference: that of the first full record after it with its name. One pass over the heads of the records, from place to place.
 ghost use mathlib.Core.Path.{_≡_};
-ghost use Prim.Native.Nat.{_+_, _*_, _≤_, _<_, min, max};
+ghost use Prim.Native.Nat.{_+_, _*_, _≤_, _<_, _^_, min, max};
 ghost use Rattle.streams.specs.Places.{servesUntil};
 ghost use Rattle.rules.specs.Text.{sameBytes};
 ghost use Rattle.rules.specs.Record.{matchName};
 ghost use Rattle.rules.specs.Places.{near};
+ghost use Rattle.streams.specs.declared.refusal.Refusal.the-variants.{Malformed};
+ghost use Rattle.codeview.specs.Record.{typeOf};
 ghost use Rattle.codeview.specs.Read.{typeIn};
+ghost use Rattle.codeview.specs.declared.record.TypeRead.the-variants.{Refused};
+ghost use lib.ListN.{length};
 ghost use Rattle.queries.specs.Sizes.{FullLayout, FullOf, FullData, FullSize, FullBetween, layoutKind, passedOver};
 use codeview::index::TypeIndex;
+use codeview::record::ClassKind;
 use codeview::record::TypeData;
 use codeview::record::TypeRead;
 use codeview::record::UniqueName;
-use codeview::types::type_in;
+use codeview::types::class;
+use codeview::types::union_type;
 use leaf_writers::names::name_of;
 use streams::bounds::places_in;
 use streams::bounds::spacing_in;
@@ -23,8 +29,11 @@ use streams::places::wide;
 use streams::refusal::StreamKind;
 use streams::stream::Cursor;
 use streams::stream::CursorRead;
+use streams::stream::Found;
 use streams::stream::Stream;
 use streams::stream::next_cursor;
+use streams::stream::record_at;
+use streams::stream::records_of;
 use streams::stream::walk_from;
 use wire::field::left;
 use wire::name::Name;
@@ -136,6 +145,20 @@ fn passed_over(s: &[u8], at: usize) -> bool
     true
 }
 
+// What a record of a kind says, by its fields, which stand at `start`.
+fn full_of(types: &[u8], b: &[u8], start: usize, kind: u16, index: u32, name: &[u8]) -> FullRead
+    requires { ⌜ start + length (now b) < 2 ^ 63 ⌝ }
+    ensures { λ r. ⌜ FullOf (now (types .entry)) (typeOf (Refused (Malformed index)) start kind (now (b .entry))) (now (name .entry)) r ⌝ }
+{
+    match kind {
+        0x1504 => return full_read(types, class(b, start, index, ClassKind::Class), name),
+        0x1505 => return full_read(types, class(b, start, index, ClassKind::Struct), name),
+        0x1519 => return full_read(types, class(b, start, index, ClassKind::Interface), name),
+        0x1506 => return full_read(types, union_type(b, start, index), name),
+        _ => return FullRead::Other,
+    }
+}
+
 // What the record at a place says.
 fn full_at(types: &[u8], stream: Stream, at: usize, index: u32, name: &[u8]) -> FullRead
     ensures { λ r. ⌜ FullOf (now (types .entry)) (typeIn (now (types .entry)) stream at index) (now (name .entry)) r ⌝ }
@@ -143,7 +166,14 @@ fn full_at(types: &[u8], stream: Stream, at: usize, index: u32, name: &[u8]) -> 
     if passed_over(types, at) {
         return FullRead::Other;
     }
-    full_read(types, type_in(types, stream, at, TypeIndex(index)), name)
+    let records = records_of(types, stream);
+    match record_at(records, at) {
+        Found::Record { kind, start, end } => {
+            return full_of(types, &types[start..end], start, kind, index, name);
+        }
+        Found::Missing => return FullRead::Other,
+        Found::CrossModule => return FullRead::Other,
+    }
 }
 
 fn later(a: u32, b: u32) -> u32

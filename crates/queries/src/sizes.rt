@@ -1,17 +1,19 @@
 // The sizes of types: one record after another of a chain, at most 32, and the size of a forward reference.
 ghost use mathlib.Core.Path.{_≡_};
-ghost use Prim.Native.Nat.{_<_};
 ghost use lib.Dec.{eqb};
 ghost use Rattle.wire.specs.Field.{pick};
 ghost use Rattle.rules.specs.Places.{near};
 ghost use Rattle.rules.specs.Text.{primitiveSize};
-ghost use Rattle.queries.specs.Sizes.{Sizes, DataSizes, LayoutSize};
+ghost use Rattle.rules.specs.Record.{matchName};
+ghost use Rattle.queries.specs.Sizes.{Sizes, LayoutSize};
 use crate::scan::get_size_for_forward_reference;
 use crate::scan::match_name;
 use codeview::index::TypeIndex;
+use codeview::record::ClassType;
 use codeview::record::PrimitiveType;
 use codeview::record::TypeData;
 use codeview::record::TypeRead;
+use codeview::record::UnionType;
 use codeview::types::type_at;
 use context::flags::Call;
 
@@ -30,23 +32,44 @@ fn get_primitive_size(call: Call, p: PrimitiveType) -> u64
     call.size as u64
 }
 
-// A class, interface, struct or union.
+// A class, interface or struct: a forward reference has the size of the full record.
 fn get_class_size(
     types: &[u8],
     bounds: &[u32],
     places: &[u32],
     call: Call,
     index: TypeIndex,
-    forward: bool,
-    size: u64,
-    name: &[u8],
+    c: ClassType,
 ) -> u64
-    ensures { λ r. ⌜ LayoutSize (now (types .entry)) (near (now (bounds .entry)) (now (places .entry))) call (index .0) forward size (now (name .entry)) r ⌝ }
+    ensures { λ r. ⌜ LayoutSize (now (types .entry)) (near (now (bounds .entry)) (now (places .entry))) call (index .0) (c .forward) (c .size) (matchName (now (types .entry)) (c .name) (c .unique)) r ⌝ }
 {
-    if forward {
-        return get_size_for_forward_reference(types, bounds, places, index, name, size);
+    if c.forward {
+        let name = c.name;
+        let unique = c.unique;
+        let matched = match_name(types, name, unique);
+        return get_size_for_forward_reference(types, bounds, places, index, matched, c.size);
     }
-    size
+    c.size
+}
+
+// The same of a union.
+fn get_union_size(
+    types: &[u8],
+    bounds: &[u32],
+    places: &[u32],
+    call: Call,
+    index: TypeIndex,
+    c: UnionType,
+) -> u64
+    ensures { λ r. ⌜ LayoutSize (now (types .entry)) (near (now (bounds .entry)) (now (places .entry))) call (index .0) (c .forward) (c .size) (matchName (now (types .entry)) (c .name) (c .unique)) r ⌝ }
+{
+    if c.forward {
+        let name = c.name;
+        let unique = c.unique;
+        let matched = match_name(types, name, unique);
+        return get_size_for_forward_reference(types, bounds, places, index, matched, c.size);
+    }
+    c.size
 }
 
 // The size of a type that comes after `n` records of a chain. What cannot be read has the size 0; a primitive does not count.
@@ -60,79 +83,39 @@ pub fn get_type_size(
 ) -> SizeRead
     ensures { λ r. ⌜ Sizes (now (types .entry)) (near (now (bounds .entry)) (now (places .entry))) call (index .0) n r ⌝ }
 {
-    match type_at(types, bounds, places, index) {
-        TypeRead::Good(t) => {
-            if let TypeData::Primitive(p) = t {
-                return SizeRead::Bytes(get_primitive_size(call, p));
-            }
-            if 32 <= n {
-                return SizeRead::TooLong(index.0);
-            }
-            get_data_size(types, bounds, places, call, index, n, t)
-        }
-        TypeRead::Refused(_) => SizeRead::Bytes(0),
+    let TypeRead::Good(t) = type_at(types, bounds, places, index) else {
+        return SizeRead::Bytes(0);
+    };
+    if let TypeData::Primitive(p) = t {
+        return SizeRead::Bytes(get_primitive_size(call, p));
     }
-}
-
-// The size of the record that was read for an index.
-fn get_data_size(
-    types: &[u8],
-    bounds: &[u32],
-    places: &[u32],
-    call: Call,
-    index: TypeIndex,
-    n: u32,
-    t: TypeData,
-) -> SizeRead
-    requires { ⌜ n < 32 ⌝ }
-    ensures { λ r. ⌜ DataSizes (now (types .entry)) (near (now (bounds .entry)) (now (places .entry))) call (index .0) n t r ⌝ }
-{
+    if 32 <= n {
+        return SizeRead::TooLong(index.0);
+    }
     match t {
-        TypeData::Primitive(p) => SizeRead::Bytes(get_primitive_size(call, p)),
+        TypeData::Primitive(p) => return SizeRead::Bytes(get_primitive_size(call, p)),
         TypeData::Modifier(m) => {
             let u = m.underlying;
-            get_type_size(types, bounds, places, call, u, n + 1)
+            let r = get_type_size(types, bounds, places, call, u, n + 1);
+            return r;
         }
-        TypeData::Pointer(p) => SizeRead::Bytes(p.size as u64),
-        TypeData::Procedure(_) => SizeRead::Bytes(call.size as u64),
-        TypeData::MemberFunction(_) => SizeRead::Bytes(call.size as u64),
-        TypeData::ArgumentList(_) => SizeRead::Bytes(0),
-        TypeData::Enumerate(e) => SizeRead::Bytes(e.width as u64),
-        TypeData::Array(a) => SizeRead::Bytes(a.size),
+        TypeData::Pointer(p) => return SizeRead::Bytes(p.size as u64),
+        TypeData::Procedure(_) => return SizeRead::Bytes(call.size as u64),
+        TypeData::MemberFunction(_) => return SizeRead::Bytes(call.size as u64),
+        TypeData::ArgumentList(_) => return SizeRead::Bytes(0),
+        TypeData::Enumerate(e) => return SizeRead::Bytes(e.width as u64),
+        TypeData::Array(a) => return SizeRead::Bytes(a.size),
         TypeData::Class(c) => {
-            let name = c.name;
-            let unique = c.unique;
-            let matched = match_name(types, name, unique);
-            SizeRead::Bytes(get_class_size(
-                types,
-                bounds,
-                places,
-                call,
-                index,
-                c.forward,
-                c.size,
-                matched,
-            ))
+            return SizeRead::Bytes(get_class_size(types, bounds, places, call, index, c));
         }
         TypeData::Union(c) => {
-            let name = c.name;
-            let unique = c.unique;
-            let matched = match_name(types, name, unique);
-            SizeRead::Bytes(get_class_size(
-                types,
-                bounds,
-                places,
-                call,
-                index,
-                c.forward,
-                c.size,
-                matched,
-            ))
+            return SizeRead::Bytes(get_union_size(types, bounds, places, call, index, c));
         }
         TypeData::Enumeration(e) => {
             let u = e.underlying;
-            get_type_size(types, bounds, places, call, u, n + 1)
+            let r = get_type_size(types, bounds, places, call, u, n + 1);
+            return r;
         }
-        TypeData::Unhandled(_) => SizeRead::Bytes(0),
+        TypeData::Unhandled(_) => return SizeRead::Bytes(0),
     }
 }

@@ -2,23 +2,12 @@
 use Prim.Native.Nat.{ℕ, _<_}
 use borrow.Fn.Kinds.{In}
 use borrow.Fn.PlainCycle.{Measures, is, falls, and}
-use Rattle.queries.proofs.sizes.get_data_size.Reads as get-data-size
-use Rattle.queries.proofs.sizes.get_data_size.Kinds as get-data-size-kinds
 use Rattle.queries.proofs.sizes.get_type_size.Reads as get-type-size
 use Rattle.queries.proofs.sizes.get_type_size.Kinds as get-type-size-kinds
-use Prim.Native.Nat.{_+_, _*_, _-_}  -- common
-
-abbrev pub μ-get-data-size : Measures 3 get-data-size-kinds.ps ℕ
-μ-get-data-size κs a = (33 - a .1 .1 .1 .1 .1 .0) * 2
-
-abbrev pub get-data-size-at : ℕ → In 3 get-data-size-kinds.ps
-get-data-size-at t = and 3 get-data-size-kinds.ps (is 3 get-data-size-kinds.ps μ-get-data-size t) get-data-size.Pre
-
-abbrev pub get-data-size-below : ℕ → In 3 get-data-size-kinds.ps
-get-data-size-below t = and 3 get-data-size-kinds.ps (falls 3 get-data-size-kinds.ps _<_ μ-get-data-size t) get-data-size.Pre
+use Prim.Native.Nat.{_-_}  -- common
 
 abbrev pub μ-get-type-size : Measures 3 get-type-size-kinds.ps ℕ
-μ-get-type-size κs a = (33 - a .1 .1 .1 .1 .1 .0) * 2 + 1
+μ-get-type-size κs a = 33 - a .1 .1 .1 .1 .1 .0
 
 abbrev pub get-type-size-at : ℕ → In 3 get-type-size-kinds.ps
 get-type-size-at t = and 3 get-type-size-kinds.ps (is 3 get-type-size-kinds.ps μ-get-type-size t) get-type-size.Pre
