@@ -36,9 +36,8 @@ pub fn emit_name_str(out: &mut [u8], p: Pen, name: &[u8]) -> Pen
 pub fn emit_kind(out: &mut [u8], p: Pen, code: u8) -> Pen
     ensures { λ r. ⌜ Wrote (page (now (out .entry)) p) (writing (primitiveName code)) (page (now (out .exit)) r) ⌝ }
 {
-    let found = primitives::find_primitive(code);
-    let kind = found.kind;
-    let name = kind.name;
-    let len = kind.len;
-    pen::text(out, p, &name[..len])
+    let name = primitives::kind_name(code);
+    let bytes = name.bytes;
+    let len = name.len;
+    pen::text(out, p, &bytes[..len])
 }

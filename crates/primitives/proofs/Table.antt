@@ -1,20 +1,21 @@
 -- The table of primitive types: what a search of it does, and that it has each code once. Assumes nothing.
-use Prim.Native.Nat.{ℕ, zero, suc, _+_, _≤_, _<_}
+use Prim.Native.Nat.{ℕ, zero, suc, _+_, _*_, _/_, _%_, _≤_, _<_}
 use native.Mathlib.Nat.{le-of-suc-le-suc, not-suc-le-zero}
 use native.Mathlib.Numerals.{add-one}
 use native.Mathlib.Omega.{arith}
 use mathlib.Core.Path.{_≡_, refl, sym, _∙_, ap}
 use mathlib.Core.Bool.{Bool, true, false}
-use mathlib.Core.List.{List, [], _∷_, map}
-use lib.ListN.{length, getD, take, drop, drop-of-length-le, List·getD-eq-default}
+use mathlib.Core.List.{List, [], _∷_, _++_, map}
+use lib.ListN.{length, getD, take, drop, drop-of-length-le, length-map, List·getD-eq-default}
 use lib.Seq.{drop-cons, getD-take, length-take-le}
-use lib.Dec.{T, ltb, eqb, leb·zero, leb·suc-suc}
-use borrow.Author.Tests.{eq-eqb, ne-eqb, ltb-true, ltb-false}
-use Rattle.wire.specs.Field.{pick}
+use lib.Dec.{T, ltb, leb, eqb, leb·zero, leb·suc-suc}
+use borrow.Author.Tests.{eq-eqb, ne-eqb, ltb-true, ltb-false, le-ltb, leb-true, eqb-true}
+use Rattle.wire.specs.Field.{pick, number}
 use Rattle.wire.proofs.Laws.{map-pick}
-use Rattle.primitives.specs.Primitive.{primitives, codesOf, empty, firstOf, placeOf, listed, nowhere}
+use Rattle.primitives.specs.Primitive.{primitives, codesOf, empty, firstOf, placeOf, listed, nowhere, named, others, seek, seekWithLen, wordsOf, spreadOf}
 use Rattle.primitives.specs.declared.PrimitiveKind.{PrimitiveKind}
 use Rattle.primitives.specs.declared.PrimitiveSearch.{PrimitiveSearch}
+use Rattle.primitives.specs.declared.NameWords.{NameWords}
 
 -- A search from a place on: it ends there, or goes on behind it; at the end nothing is left to search.
 module _ (code : ℕ) (l : List ℕ) (i : ℕ) where
@@ -88,21 +89,179 @@ early-same l n m d i e p = by (ltb i n) refl
         List·getD-eq-default (take n l) d (omega (arith, length-take-le n l (omega (arith, e))))
         ∙ sym (List·getD-eq-default l d (omega (arith, e)))
 
+-- What a table has at a place, whatever is said of a place past it.
+at-place : {A : Type 0} (l : List A) (i : ℕ) (c d : A) → i < length l → getD l i c ≡ getD l i d
+at-place [] i c d h = absurd (not-suc-le-zero h)
+at-place (x ∷ l) zero c d h = refl
+at-place (x ∷ l) (suc i) c d h = at-place l i c d (le-of-suc-le-suc h)
+
+pub late-at : {A : Type 0} (l : List A) (c d : A) (k i : ℕ) → length l ≡ 43 → k < 43 → i ≡ k → getD l k c ≡ getD l i d
+late-at l c d k i e h f = rw f (at-place l k c d (omega arith))
+
+pub early-at : {A : Type 0} (l : List A) (c d : A) (k i : ℕ) → length l ≡ 43 → k < 22 → i ≡ k → getD l k c ≡ getD (take 22 l) i d
+early-at l c d k i e h f = rw f (at-place l k c d (omega arith) ∙ sym (getD-take 22 l k d h))
+
+pub early-none : {A : Type 0} (l : List A) (d : A) (i : ℕ) → length l ≡ 43 → Passed 0 22 i → d ≡ getD (take 22 l) i d
+early-none l d i e p =
+    let h = passed-all 0 22 i p (omega arith) in
+    let n : length (take 22 l) ≡ 22 = length-take-le 22 l (omega arith) in
+    sym (List·getD-eq-default (take 22 l) d (omega arith))
+
 -- The table has 43 kinds.
 pub forty-three : length primitives ≡ 43
 unfolding primitives
 forty-three = refl
 
--- What a search of it says, by the place of the code: the kind, whether there is one, its size.
-module _ (code : ℕ) where
-  pub found-at : record { listed = ltb (placeOf code (codesOf primitives)) 43; kind = getD primitives (placeOf code (codesOf primitives)) empty } ≡ firstOf code primitives listed nowhere
-  found-at = rw (← forty-three) (search-at code primitives)
+-- A place among the codes of a table and others: the place in the table, or one past it.
+past-table : (code : ℕ) (l m : List ℕ) → pick (ltb (placeOf code (l ++ m)) (length l)) (placeOf code (l ++ m)) (length l) ≡ placeOf code l
+unfolding placeOf
+past-table code [] m = rw (le-ltb (placeOf code m) 0 (omega arith))
+past-table code (k ∷ l) m = by (eqb k code) (past-table code l m)
+  where
+    by : (b : Bool)
+        → pick (ltb (placeOf code (l ++ m)) (length l)) (placeOf code (l ++ m)) (length l) ≡ placeOf code l
+        → pick (ltb (pick b 0 (suc (placeOf code (l ++ m)))) (suc (length l))) (pick b 0 (suc (placeOf code (l ++ m)))) (suc (length l)) ≡ pick b 0 (suc (placeOf code l))
+    by true h = rw (leb·suc-suc 0 (length l), leb·zero (length l))
+    by false h = rw (leb·suc-suc (suc (placeOf code (l ++ m))) (length l)) (sym (map-pick suc (ltb (placeOf code (l ++ m)) (length l)) (placeOf code (l ++ m)) (length l)) ∙ ap suc h)
 
-  pub listed-at : ltb (placeOf code (codesOf primitives)) 43 ≡ firstOf code primitives (λ _. true) false
+-- What is at such a place, and whether it is one of the table, is what the place in the table says.
+module _ {A : Type 0} (l : List A) (d : A) (p q : ℕ) (e : pick (ltb p (length l)) p (length l) ≡ q) where
+  pub same-kind : getD l p d ≡ getD l q d
+  same-kind = by (ltb p (length l)) refl
+    where
+      by : (b : Bool) → ltb p (length l) ≡ b → getD l p d ≡ getD l q d
+      by true t = let f : p ≡ q = rw t at e in ap (λ (k : ℕ). getD l k d) f
+      by false t =
+          let f : length l ≡ q = rw t at e in
+          let h = ltb-false p (length l) t in
+          List·getD-eq-default l d h ∙ sym (List·getD-eq-default l d (omega arith))
+
+  pub same-listed : ltb p (length l) ≡ ltb q (length l)
+  same-listed = by (ltb p (length l)) refl
+    where
+      by : (b : Bool) → ltb p (length l) ≡ b → ltb p (length l) ≡ ltb q (length l)
+      by true t = let f : p ≡ q = rw t at e in ap (λ (k : ℕ). ltb k (length l)) f
+      by false t = let f : length l ≡ q = rw t at e in t ∙ sym (le-ltb q (length l) (omega arith))
+
+-- What a search of it says, by the place of the code: the kind, whether there is one, its size, its name.
+module _ (code : ℕ) where
+  in-table : pick (ltb (seek code) (length primitives)) (seek code) (length primitives) ≡ placeOf code (codesOf primitives)
+  unfolding seek
+  in-table = let n : length (codesOf primitives) ≡ length primitives = length-map primitives _ in rw n at (past-table code (codesOf primitives) others)
+
+  pub found-at : record { listed = ltb (seek code) 43; kind = getD primitives (seek code) empty } ≡ firstOf code primitives listed nowhere
+  found-at =
+      let e = in-table in
+      let k = same-kind primitives empty (seek code) (placeOf code (codesOf primitives)) e in
+      let t = same-listed primitives empty (seek code) (placeOf code (codesOf primitives)) e in
+      rw (← forty-three, k, t) (search-at code primitives)
+
+  pub listed-at : ltb (seek code) 43 ≡ firstOf code primitives (λ _. true) false
   listed-at = ap (λ (r : PrimitiveSearch). r .listed) found-at ∙ map-first (λ (r : PrimitiveSearch). r .listed) code primitives listed nowhere
 
-  pub size-at : (getD primitives (placeOf code (codesOf primitives)) empty) .size ≡ firstOf code primitives (λ k. k .size) 0
+  pub size-at : (getD primitives (seek code) empty) .size ≡ firstOf code primitives (λ k. k .size) 0
   size-at = ap (λ (r : PrimitiveSearch). r .kind .size) found-at ∙ map-first (λ (r : PrimitiveSearch). r .kind .size) code primitives listed nowhere
+
+  pub named-at : named (getD primitives (seek code) empty) ≡ firstOf code primitives named (named empty)
+  named-at = ap (λ (r : PrimitiveSearch). named (r .kind)) found-at ∙ map-first (λ (r : PrimitiveSearch). named (r .kind)) code primitives listed nowhere
+
+-- Two lists of numbers, compared.
+abbrev same : List ℕ → List ℕ → Bool
+same [] [] = true
+same [] (b ∷ m) = false
+same (a ∷ l) [] = false
+same (a ∷ l) (b ∷ m) = pick (eqb a b) (same l m) false
+
+same-is : (l m : List ℕ) → T (same l m) → l ≡ m
+same-is [] [] t = refl
+same-is [] (b ∷ m) t = absurd t
+same-is (a ∷ l) [] t = absurd t
+same-is (a ∷ l) (b ∷ m) t = by (eqb a b) refl (λ u. same-is l m u) t
+  where
+    by : (c : Bool) → eqb a b ≡ c → (T (same l m) → l ≡ m) → T (pick c (same l m) false) → a ∷ l ≡ b ∷ m
+    by true e rest t = let h : a ≡ b = eqb-true a b e in let k : l ≡ m = rest t in cc
+    by false e rest t = absurd t
+
+-- A test that all kinds of a table pass, at each place of it.
+abbrev all : (PrimitiveKind → Bool) → List PrimitiveKind → Bool
+all f [] = true
+all f (k ∷ l) = pick (f k) (all f l) false
+
+all-at : (f : PrimitiveKind → Bool) (d : PrimitiveKind) → T (f d) → (l : List PrimitiveKind) → T (all f l) → (i : ℕ) → T (f (getD l i d))
+all-at f d h [] t i = h
+all-at f d h (k ∷ l) t i = by (f k) refl (λ u j. all-at f d h l u j) t i
+  where
+    by : (c : Bool) → f k ≡ c → (T (all f l) → (j : ℕ) → T (f (getD l j d))) → T (pick c (all f l) false) → (i : ℕ) → T (f (getD (k ∷ l) i d))
+    by true e rest t zero = rw e tt
+    by true e rest t (suc i) = rest t i
+    by false e rest t i = absurd t
+
+-- Computed over the table: each name is the bytes of its three numbers, and has at most 20.
+abbrev spreads : PrimitiveKind → Bool
+spreads k = same (spreadOf (wordsOf k .0) (wordsOf k .1) (wordsOf k .2)) (k .name)
+
+spread-none : T (spreads empty)
+unfolding spreadOf wordsOf number
+spread-none = tt
+
+spread-all : T (all spreads primitives)
+unfolding primitives spreadOf wordsOf number
+spread-all = tt
+
+pub names-spread : (i : ℕ) → let k = getD primitives i empty in spreadOf (wordsOf k .0) (wordsOf k .1) (wordsOf k .2) ≡ k .name
+names-spread i = same-is _ _ (all-at spreads empty spread-none primitives spread-all i)
+
+abbrev fits : PrimitiveKind → Bool
+fits k = leb (k .len) 20
+
+fits-all : T (all fits primitives)
+unfolding primitives
+fits-all = tt
+
+is-true : (b : Bool) → T b → b ≡ true
+is-true true t = refl
+is-true false t = absurd t
+
+pub len-at : (i : ℕ) → (getD primitives i empty) .len ≤ 20
+len-at i = leb-true _ _ (is-true _ (all-at fits empty tt primitives fits-all i))
+
+pub len-short : (k : PrimitiveKind) (i : ℕ) → k ≡ getD primitives i empty → k .len ≤ 20
+len-short k i e = rw e (len-at i)
+
+-- The place and the length out of the one number.
+module _ (code n : ℕ) (e : n ≡ seekWithLen code) (h : seek code ≤ 50) where
+  pub place-of : n % 64 ≡ seek code
+  unfolding seekWithLen
+  place-of = omega (arith, e)
+
+  pub len-of : n / 64 ≡ (getD primitives (seek code) empty) .len
+  unfolding seekWithLen
+  len-of = omega (arith, e)
+
+-- The name of a code's kind, from its place and its numbers.
+pub name-is : (code n : ℕ) (w : NameWords) (bs : List ℕ) → n ≡ seekWithLen code → seek code ≤ 50 → w ≡ wordsOf (getD primitives (n % 64) empty) → bs ≡ spreadOf (w .0) (w .1) (w .2)
+    → record { len = n / 64; bytes = bs } ≡ firstOf code primitives named (named empty)
+name-is code n w bs e h f g =
+    let p = place-of code n e h in
+    let b : bs ≡ (getD primitives (seek code) empty) .name = rw (g, f, p) (names-spread (seek code)) in
+    rw (b, len-of code n e h) (named-at code)
+
+place-below : (code : ℕ) (l : List ℕ) → placeOf code l ≤ length l
+unfolding placeOf
+place-below code [] = omega arith
+place-below code (k ∷ l) = by (eqb k code) (place-below code l)
+  where
+    by : (b : Bool) → placeOf code l ≤ length l → pick b 0 (suc (placeOf code l)) ≤ suc (length l)
+    by true h = omega arith
+    by false h = omega arith
+
+fifty : length (codesOf primitives ++ others) ≡ 50
+unfolding primitives
+fifty = refl
+
+pub seek-below : (code : ℕ) → seek code ≤ 50
+unfolding seek
+seek-below code = rw fifty at (place-below code (codesOf primitives ++ others))
 
 -- Each code of a list is below the next.
 abbrev rising : List ℕ → Bool

@@ -1,14 +1,16 @@
 -- The primitive types (document 01, "Streams and records"): the 43 kinds of cvinfo.h, with the names and byte sizes of 000.
-use Prim.Native.Nat.{ℕ, suc, _-_}
+use Prim.Native.Nat.{ℕ, suc, _+_, _-_, _*_, _/_, _%_}
 use Prim.Native.String.{String}
 use mathlib.Core.Bool.{Bool, true, false}
 use mathlib.Core.List.{List, [], _∷_, _++_, map}
-use lib.ListN.{length, replicate}
+use lib.ListN.{length, replicate, getD}
 use lib.Dec.{eqb}
-use Rattle.wire.specs.Field.{pick}
+use Rattle.wire.specs.Field.{pick, number}
 use Rattle.wire.specs.Text.{bytes}
 use Rattle.primitives.specs.declared.PrimitiveKind.{PrimitiveKind}
 use Rattle.primitives.specs.declared.PrimitiveSearch.{PrimitiveSearch}
+use Rattle.primitives.specs.declared.KindName.{KindName}
+use Rattle.primitives.specs.declared.NameWords.{NameWords}
 
 -- A kind of the table: its code, its name and its byte size. The name lies in 20 bytes, with zeros behind it.
 abbrev pub kind : ℕ → String → ℕ → PrimitiveKind
@@ -91,3 +93,30 @@ listed k = record { listed = true; kind = k }
 
 abbrev pub nowhere : PrimitiveSearch
 nowhere = record { listed = false; kind = empty }
+
+-- The name of a kind, as the code answers it.
+abbrev pub named : PrimitiveKind → KindName
+named k = record { len = k .len; bytes = k .name }
+
+-- The place of a code among those of the table and some that no kind has: 43 or more where it is none of the table's.
+abbrev pub others : List ℕ
+others = 0x01 ∷ 0x02 ∷ 0x04 ∷ 0x05 ∷ 0x06 ∷ 0x07 ∷ 0x09 ∷ []
+
+unfoldable pub seek : ℕ → ℕ
+seek code = placeOf code (codesOf primitives ++ others)
+
+-- The same with how long the name there is, from bit 6 on.
+unfoldable pub seekWithLen : ℕ → ℕ
+seekWithLen code = seek code + 64 * (getD primitives (seek code) empty) .len
+
+-- A name in three numbers of eight bytes, the first byte the lowest, and the 20 bytes of three numbers.
+unfoldable pub wordsOf : PrimitiveKind → NameWords
+wordsOf k = record { 0 = number 8 (k .name) 0; 1 = number 8 (k .name) 8; 2 = number 8 (k .name) 16 }
+
+unfoldable pub spreadOf : ℕ → ℕ → ℕ → List ℕ
+spreadOf a b c =
+    a % 256 ∷ a / 0x100 % 256 ∷ a / 0x10000 % 256 ∷ a / 0x1000000 % 256 ∷
+    a / 0x100000000 % 256 ∷ a / 0x10000000000 % 256 ∷ a / 0x1000000000000 % 256 ∷ a / 0x100000000000000 % 256 ∷
+    b % 256 ∷ b / 0x100 % 256 ∷ b / 0x10000 % 256 ∷ b / 0x1000000 % 256 ∷
+    b / 0x100000000 % 256 ∷ b / 0x10000000000 % 256 ∷ b / 0x1000000000000 % 256 ∷ b / 0x100000000000000 % 256 ∷
+    c % 256 ∷ c / 0x100 % 256 ∷ c / 0x10000 % 256 ∷ c / 0x1000000 % 256 ∷ []

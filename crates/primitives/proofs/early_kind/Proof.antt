@@ -1,9 +1,10 @@
--- At each place the code's table has what the definition's has.
+-- At each place the answer is what the table has there.
 -- Assumes nothing.
-use borrow.Author.Needs.{needs}
-use Rattle.primitives.specs.Primitive.{primitives, empty}
+use native.Mathlib.Omega.{arith}
 use lib.ListN.{take}
-use Rattle.primitives.proofs.Table.{early-empty}
+use Rattle.primitives.specs.Primitive.{empty}
+use Rattle.primitives.proofs.Table.{early-at, early-none}
+use borrow.Author.Needs.{needs}
 use Rattle.primitives.proofs.early_kind.Statement.{statement}
 use Rattle.primitives.proofs.early_kind.Tie as tie
 
@@ -74,96 +75,73 @@ array-copy-out-result-22 : tie.Need-array-copy-out-result-22
 array-copy-out-result-22 c = search needs
 
 returns : tie.Need-returns
-unfolding primitives
-returns c = rw (c .before .match .keys1)
+returns c = early-at (c .before .before .args .t1) _ empty 0 (c .before .before .args .i) (c .before .before .pre) (omega arith) (c .before .match .keys1)
 
 returns-2 : tie.Need-returns-2
-unfolding primitives
-returns-2 c = rw (c .before .match .keys2)
+returns-2 c = early-at (c .before .before .args .t1) _ empty 1 (c .before .before .args .i) (c .before .before .pre) (omega arith) (c .before .match .keys2)
 
 returns-3 : tie.Need-returns-3
-unfolding primitives
-returns-3 c = rw (c .before .match .keys3)
+returns-3 c = early-at (c .before .before .args .t1) _ empty 2 (c .before .before .args .i) (c .before .before .pre) (omega arith) (c .before .match .keys3)
 
 returns-4 : tie.Need-returns-4
-unfolding primitives
-returns-4 c = rw (c .before .match .keys4)
+returns-4 c = early-at (c .before .before .args .t1) _ empty 3 (c .before .before .args .i) (c .before .before .pre) (omega arith) (c .before .match .keys4)
 
 returns-5 : tie.Need-returns-5
-unfolding primitives
-returns-5 c = rw (c .before .match .keys5)
+returns-5 c = early-at (c .before .before .args .t1) _ empty 4 (c .before .before .args .i) (c .before .before .pre) (omega arith) (c .before .match .keys5)
 
 returns-6 : tie.Need-returns-6
-unfolding primitives
-returns-6 c = rw (c .before .match .keys6)
+returns-6 c = early-at (c .before .before .args .t1) _ empty 5 (c .before .before .args .i) (c .before .before .pre) (omega arith) (c .before .match .keys6)
 
 returns-7 : tie.Need-returns-7
-unfolding primitives
-returns-7 c = rw (c .before .match .keys7)
+returns-7 c = early-at (c .before .before .args .t1) _ empty 6 (c .before .before .args .i) (c .before .before .pre) (omega arith) (c .before .match .keys7)
 
 returns-8 : tie.Need-returns-8
-unfolding primitives
-returns-8 c = rw (c .before .match .keys8)
+returns-8 c = early-at (c .before .before .args .t1) _ empty 7 (c .before .before .args .i) (c .before .before .pre) (omega arith) (c .before .match .keys8)
 
 returns-9 : tie.Need-returns-9
-unfolding primitives
-returns-9 c = rw (c .before .match .keys9)
+returns-9 c = early-at (c .before .before .args .t1) _ empty 8 (c .before .before .args .i) (c .before .before .pre) (omega arith) (c .before .match .keys9)
 
 returns-10 : tie.Need-returns-10
-unfolding primitives
-returns-10 c = rw (c .before .match .keys10)
+returns-10 c = early-at (c .before .before .args .t1) _ empty 9 (c .before .before .args .i) (c .before .before .pre) (omega arith) (c .before .match .keys10)
 
 returns-11 : tie.Need-returns-11
-unfolding primitives
-returns-11 c = rw (c .before .match .keys11)
+returns-11 c = early-at (c .before .before .args .t1) _ empty 10 (c .before .before .args .i) (c .before .before .pre) (omega arith) (c .before .match .keys11)
 
 returns-12 : tie.Need-returns-12
-unfolding primitives
-returns-12 c = rw (c .before .match .keys12)
+returns-12 c = early-at (c .before .before .args .t1) _ empty 11 (c .before .before .args .i) (c .before .before .pre) (omega arith) (c .before .match .keys12)
 
 returns-13 : tie.Need-returns-13
-unfolding primitives
-returns-13 c = rw (c .before .match .keys13)
+returns-13 c = early-at (c .before .before .args .t1) _ empty 12 (c .before .before .args .i) (c .before .before .pre) (omega arith) (c .before .match .keys13)
 
 returns-14 : tie.Need-returns-14
-unfolding primitives
-returns-14 c = rw (c .before .match .keys14)
+returns-14 c = early-at (c .before .before .args .t1) _ empty 13 (c .before .before .args .i) (c .before .before .pre) (omega arith) (c .before .match .keys14)
 
 returns-15 : tie.Need-returns-15
-unfolding primitives
-returns-15 c = rw (c .before .match .keys15)
+returns-15 c = early-at (c .before .before .args .t1) _ empty 14 (c .before .before .args .i) (c .before .before .pre) (omega arith) (c .before .match .keys15)
 
 returns-16 : tie.Need-returns-16
-unfolding primitives
-returns-16 c = rw (c .before .match .keys16)
+returns-16 c = early-at (c .before .before .args .t1) _ empty 15 (c .before .before .args .i) (c .before .before .pre) (omega arith) (c .before .match .keys16)
 
 returns-17 : tie.Need-returns-17
-unfolding primitives
-returns-17 c = rw (c .before .match .keys17)
+returns-17 c = early-at (c .before .before .args .t1) _ empty 16 (c .before .before .args .i) (c .before .before .pre) (omega arith) (c .before .match .keys17)
 
 returns-18 : tie.Need-returns-18
-unfolding primitives
-returns-18 c = rw (c .before .match .keys18)
+returns-18 c = early-at (c .before .before .args .t1) _ empty 17 (c .before .before .args .i) (c .before .before .pre) (omega arith) (c .before .match .keys18)
 
 returns-19 : tie.Need-returns-19
-unfolding primitives
-returns-19 c = rw (c .before .match .keys19)
+returns-19 c = early-at (c .before .before .args .t1) _ empty 18 (c .before .before .args .i) (c .before .before .pre) (omega arith) (c .before .match .keys19)
 
 returns-20 : tie.Need-returns-20
-unfolding primitives
-returns-20 c = rw (c .before .match .keys20)
+returns-20 c = early-at (c .before .before .args .t1) _ empty 19 (c .before .before .args .i) (c .before .before .pre) (omega arith) (c .before .match .keys20)
 
 returns-21 : tie.Need-returns-21
-unfolding primitives
-returns-21 c = rw (c .before .match .keys21)
+returns-21 c = early-at (c .before .before .args .t1) _ empty 20 (c .before .before .args .i) (c .before .before .pre) (omega arith) (c .before .match .keys21)
 
 returns-22 : tie.Need-returns-22
-unfolding primitives
-returns-22 c = rw (c .before .match .keys22)
+returns-22 c = early-at (c .before .before .args .t1) _ empty 21 (c .before .before .args .i) (c .before .before .pre) (omega arith) (c .before .match .keys22)
 
 returns-23 : tie.Need-returns-23
-unfolding primitives
-returns-23 c = early-empty (take 22 primitives) empty (c .before .args .i) (c .match .rest)
+returns-23 c = early-none (c .before .args .t1) empty (c .before .args .i) (c .before .pre) (c .match .rest)
 
 pub early-kind-spec : {M : Type 1} → statement M
 early-kind-spec =

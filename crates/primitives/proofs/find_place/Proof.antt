@@ -1,17 +1,15 @@
--- The codes are those of the table, in its order.
+-- The place is what is below bit 6.
 -- Assumes nothing.
-use mathlib.Core.Path.{refl}
-use Rattle.primitives.specs.Primitive.{primitives}
+use Rattle.primitives.proofs.Table.{place-of, seek-below}
 use borrow.Author.Needs.{needs}
 use Rattle.primitives.proofs.find_place.Statement.{statement}
 use Rattle.primitives.proofs.find_place.Tie as tie
 
-search-requires : tie.Need-search-requires
-search-requires c κs = refl
+place-with-len-requires : tie.Need-place-with-len-requires
+place-with-len-requires c κs = search needs
 
 returns : tie.Need-returns
-unfolding primitives
-returns c = c .search .ensures
+returns c = place-of (c .before .args .code) _ (c .place-with-len .ensures) (seek-below (c .before .args .code))
 
 pub find-place-spec : {M : Type 1} → statement M
-find-place-spec = tie.close (tie.spec search-requires returns)
+find-place-spec = tie.close (tie.spec place-with-len-requires returns)

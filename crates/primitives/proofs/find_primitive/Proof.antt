@@ -1,7 +1,7 @@
 -- The kind at the place of the code, and whether that is a place of the table.
 -- Assumes nothing.
-use borrow.Author.Needs.{needs}
 use Rattle.primitives.proofs.Table.{found-at}
+use borrow.Author.Needs.{needs}
 use Rattle.primitives.proofs.find_primitive.Statement.{statement}
 use Rattle.primitives.proofs.find_primitive.Tie as tie
 
