@@ -17,16 +17,18 @@ use checked_calls::calls::type_over;
 use checked_calls::kept::keep_both;
 use codeview::index::IdIndex;
 use codeview::index::TypeIndex;
+use streams::places::least;
 use streams::places::wide;
 use streams::stream::Head;
 use streams::stream::header_of;
 use streams::stream::shorter;
 
+// How many records a stream has by its header: no more than fit, so that a header that lies asks for no long buffer.
 fn record_count(s: &[u8]) -> u32
     ensures { λ r. ⌜ r ≡ recordCount (now (s .entry)) ⌝ }
 {
     match header_of(s) {
-        Head::Good(first, end, _) => end - first,
+        Head::Good(first, end, stop) => least(end - first, ((stop - 56) / 4) as u32),
         Head::Broken => 0,
     }
 }
