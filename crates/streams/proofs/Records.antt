@@ -45,6 +45,14 @@ module _ {A : Type 0} (s : List ℕ) (at : ℕ) where
   unfolding behind field
   behind-in k z h i = rw (le-leb (at + 2) (length s) (omega arith), le-leb 2 (number 2 s at) i)
 
+  pub behind-long : (k : ℕ → A) (z : A) (len : ℕ) → at + 4 ≤ length s → len ≡ number 2 s at → 2 ≤ len → length s < at + 2 + len → behind s at k z ≡ z
+  behind-long k z len h e i j = behind-in k z h (rw e at i) ∙ rw (lt-leb (at + 2 + number 2 s at) (length s) (rw e at j))
+
+  pub behind-ends : (k : ℕ → A) (z : A) (len : ℕ) → len ≡ number 2 s at → 2 ≤ len → at + 2 + len ≤ length s → behind s at k z ≡ k (at + 2 + len)
+  behind-ends k z len e h i =
+      behind-in k z (omega arith) (rw e at h)
+      ∙ rw (le-leb (at + 2 + number 2 s at) (length s) (rw e at i), sym e)
+
 -- The same of the record at a place, and of the walk to it.
 module _ {A : Type 0} (s : List ℕ) (f : ℕ → ℕ → ℕ → A) (m : A) where
   abbrev pub found : ℕ → A
@@ -60,7 +68,7 @@ module _ {A : Type 0} (s : List ℕ) (f : ℕ → ℕ → ℕ → A) (m : A) whe
 
   pub record-long : (at len : ℕ) → at + 4 ≤ length s → len ≡ number 2 s at → 2 ≤ len → length s < at + 2 + len → recordAt s at f m ≡ m
   unfolding recordAt
-  record-long at len h e i j = behind-in s at _ m h (rw e at i) ∙ rw (lt-leb (at + 2 + number 2 s at) (length s) (rw e at j))
+  record-long at len h e i j = behind-long s at _ m len h e i j
 
   pub record-in : (at len kind : ℕ) → at + 4 ≤ length s → len ≡ number 2 s at → 2 ≤ len → at + 2 + len ≤ length s → kind ≡ number 2 s (at + 2) → recordAt s at f m ≡ f kind (at + 4) (at + 2 + len)
   unfolding recordAt field

@@ -7,9 +7,8 @@ use mathlib.Core.Bool.{Bool, true, false}
 use mathlib.Core.List.{List}
 use lib.ListN.{length, getD, set, length-set}
 use lib.Seq.{getD-set-same, getD-set-other}
-use lib.Dec.{leb, ltb}
-use borrow.Author.Tests.{ltb-true, ltb-false, le-leb}
-use Rattle.wire.specs.Field.{number}
+use lib.Dec.{ltb}
+use borrow.Author.Tests.{ltb-true, ltb-false}
 use Rattle.streams.specs.Stream.{behind, passed}
 use Rattle.streams.specs.Chains.{Within, Finished}
 use Rattle.streams.specs.Short.{Traced, Quad, Before, NotedIn, Abreast}
@@ -18,14 +17,7 @@ use Rattle.streams.specs.declared.stream.Place.the-variants.{At, Beyond}
 use Rattle.streams.specs.declared.chains.Chain.{Chain}
 use Rattle.streams.specs.declared.chains.Chain.the-variants as chain
 use Rattle.streams.proofs.Walk.{passed-grows}
-use Rattle.streams.proofs.Records.{behind-in}
 use Rattle.streams.proofs.Chained.{passed-next, within-none, within-set}
-
--- A record whose end is inside.
-pub behind-ends : (s : List ℕ) (at len : ℕ) → len ≡ number 2 s at → 2 ≤ len → at + 2 + len ≤ length s → behind s at At Beyond ≡ At (at + 2 + len)
-behind-ends s at len e h i =
-    behind-in s at At Beyond (omega arith) (rw e at h)
-    ∙ rw (le-leb (at + 2 + number 2 s at) (length s) (rw e at i), sym e)
 
 module _ (s : List ℕ) (at goal : ℕ) where
   pub before-none : Before s at goal Beyond

@@ -9,7 +9,6 @@ ghost use Rattle.streams.specs.declared.stream.Place.the-variants.{At, B
 ghost use Rattle.streams.specs.declared.stream.CursorRead.the-variants as cursor;
 ghost use Rattle.streams.specs.declared.stream.Found.the-variants as found;
 use crate::refusal::Refusal;
-use wire::field::Field16;
 use wire::field::Field32;
 
 // What the check found in a header: the indexes from `first` up to `end`, and the place where the records stop.
@@ -101,22 +100,39 @@ pub fn header_of(s: &[u8]) -> Head
     indexes_of(s)
 }
 
-// The place behind the record at a place.
+fn byte(b: u8) -> u16
+    ensures { λ r. ⌜ (r ≡ b) × (r < 256) ⌝ }
+{
+    b as u16
+}
+
+// The number that two bytes inside a stream make.
+pub fn two(s: &[u8], at: usize) -> u16
+    requires { ⌜ at + 2 ≤ length (now s) ⌝ }
+    ensures { λ r. ⌜ r ≡ number 2 (now (s .entry)) at ⌝ }
+{
+    byte(s[at]) + 256 * byte(s[at + 1])
+}
+
+// The place behind the record at a place. A record has at least four bytes.
 pub fn behind_record(s: &[u8], at: usize) -> Place
     ensures { λ r. ⌜ r ≡ behind (now (s .entry)) at At Beyond ⌝ }
 {
-    let Field16::Value(len) = wire::field::u16_at(s, at) else {
+    if s.len() < 4 {
         return Place::Beyond;
-    };
+    }
+    if s.len() - 4 < at {
+        return Place::Beyond;
+    }
+    let len = two(s, at);
     if len < 2 {
         return Place::Beyond;
     }
-    let start = at + 2;
-    let len = len as usize;
-    if s.len() - start < len {
+    let next = at + 2 + (len as usize);
+    if s.len() < next {
         return Place::Beyond;
     }
-    Place::At(start + len)
+    Place::At(next)
 }
 
 // The place behind `count` records from a place on.
@@ -135,21 +151,7 @@ pub fn behind_records(s: &[u8], from: usize, count: u32) -> Place
     Place::At(at)
 }
 
-fn byte(b: u8) -> u16
-    ensures { λ r. ⌜ (r ≡ b) × (r < 256) ⌝ }
-{
-    b as u16
-}
-
-// The number that two bytes inside a stream make.
-pub fn two(s: &[u8], at: usize) -> u16
-    requires { ⌜ at + 2 ≤ length (now s) ⌝ }
-    ensures { λ r. ⌜ r ≡ number 2 (now (s .entry)) at ⌝ }
-{
-    byte(s[at]) + 256 * byte(s[at + 1])
-}
-
-// The record at a place. It has at least four bytes.
+// The record at a place.
 pub fn record_at(s: &[u8], at: usize) -> Found
     ensures { λ r. ⌜ r ≡ recordAt (now (s .entry)) at found.Record found.Missing ⌝ }
 {

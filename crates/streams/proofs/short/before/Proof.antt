@@ -1,7 +1,9 @@
 -- The record ends before the goal, or it is not asked where.
 -- Assumes nothing.
 use native.Mathlib.Omega.{arith}
-use Rattle.streams.proofs.Traced.{behind-ends, before-none, before-some}
+use Rattle.streams.proofs.Traced.{before-none, before-some}
+use Rattle.streams.specs.declared.stream.Place.the-variants.{At, Beyond}
+use Rattle.streams.proofs.Records.{behind-ends}
 use borrow.Author.Needs.{needs}
 use Rattle.streams.proofs.short.before.Statement.{statement}
 use Rattle.streams.proofs.short.before.Tie as tie
@@ -25,7 +27,7 @@ returns-2 : tie.Need-returns-2
 returns-2 c = before-none _ _ _
 
 returns-3 : tie.Need-returns-3
-returns-3 c = before-some _ _ _ _ (behind-ends _ _ _ (c .before .before .two .ensures) (c .before .if1 .left) (omega (arith, c .if2 .left, c .before .before .before .before .pre .1))) (c .if2 .left)
+returns-3 c = before-some _ _ _ _ (behind-ends _ _ At Beyond _ (c .before .before .two .ensures) (c .before .if1 .left) (omega (arith, c .if2 .left, c .before .before .before .before .pre .1))) (c .if2 .left)
 
 pub before-spec : {M : Type 1} → statement M
 before-spec =

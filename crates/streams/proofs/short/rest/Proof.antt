@@ -7,7 +7,9 @@ use native.Mathlib.Omega.{arith}
 use Rattle.streams.specs.Chains.{Within}
 use Rattle.streams.specs.Short.{Traced}
 use Rattle.streams.proofs.Chained.{within-none, within-trans, finished-apart}
-use Rattle.streams.proofs.Traced.{behind-ends, traced-next, traced-few, traced-met}
+use Rattle.streams.proofs.Traced.{traced-next, traced-few, traced-met}
+use Rattle.streams.specs.declared.stream.Place.the-variants.{At, Beyond}
+use Rattle.streams.proofs.Records.{behind-ends}
 use borrow.Author.Needs.{needs}
 use Rattle.streams.proofs.short.rest.Statement.{statement}
 use Rattle.streams.proofs.short.rest.Tie as tie
@@ -64,7 +66,7 @@ loop-less : tie.Need-loop-less Inv-loop μ-loop
 loop-less c = omega (arith, c .before .before .before .before .before .before .loop-test .taken, c .before .before .before .before .if1 .left)
 
 loop-again : tie.Need-loop-again Inv-loop μ-loop
-loop-again c = (λ h. c .before .before .note-in .ensures .traced _ _ (traced-next _ _ _ _ _ _ _ (c .before .before .before .before .before .before .before .loop .inv .0 (omega (arith, c .before .before .before .before .before .before .loop-test .taken, c .before .before .before .before .before .before .before .before .before .before .shorter .ensures, c .before .before .before .before .before .before .before .before .before .before .before .before .before .pre .1 .4))) _ (behind-ends _ _ _ (c .before .before .before .before .before .two .ensures) (c .before .before .before .before .if1 .left) h)), within-trans _ _ _ _ _ (c .before .before .before .before .before .before .before .loop .inv .1) (c .before .before .note-in .ensures .within))
+loop-again c = (λ h. c .before .before .note-in .ensures .traced _ _ (traced-next _ _ _ _ _ _ _ (c .before .before .before .before .before .before .before .loop .inv .0 (omega (arith, c .before .before .before .before .before .before .loop-test .taken, c .before .before .before .before .before .before .before .before .before .before .shorter .ensures, c .before .before .before .before .before .before .before .before .before .before .before .before .before .pre .1 .4))) _ (behind-ends _ _ At Beyond _ (c .before .before .before .before .before .two .ensures) (c .before .before .before .before .if1 .left) h)), within-trans _ _ _ _ _ (c .before .before .before .before .before .before .before .loop .inv .1) (c .before .before .note-in .ensures .within))
 
 cast-t22 : tie.Need-cast-t22 Inv-loop μ-loop
 cast-t22 c = omega (arith, traced-few _ _ _ _ _ _ _ (c .before .before .loop .inv .0 (omega (arith, c .if2 .taken, c .before .before .before .before .before .before .before .before .pre .1 .4))), c .if2 .taken, c .before .before .before .before .before .before .before .before .pre .1 .0, c .before .before .before .before .before .before .before .before .pre .1 .4)
