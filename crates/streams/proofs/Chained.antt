@@ -13,7 +13,8 @@ use borrow.Author.Tests.{le-leb, lt-leb, ltb-true, ltb-false, lt-ltb, le-ltb, eq
 use Rattle.wire.specs.Field.{pick}
 use Rattle.streams.specs.Stream.{behind, passed, tiled}
 use Rattle.streams.specs.Places.{entryIn, markIn, markBy, firstMark, RightMarks, RightRun, quartered}
-use Rattle.streams.specs.Chains.{Linked, Within, Finished, dueNext, Dued, FourBehind, Stretched, Together, ChainedFor}
+use Rattle.streams.specs.Chains.{Linked, Within, Finished, dueNext, Dued, FourBehind, FourBefore, Stretched, Together, ChainedFor}
+use Rattle.streams.specs.Short.{Before}
 use Rattle.streams.specs.declared.stream.Place.{Place}
 use Rattle.streams.specs.declared.stream.Place.the-variants.{At, Beyond}
 use Rattle.streams.specs.declared.places.Spacing.{Spacing}
@@ -52,6 +53,9 @@ within-set base end old new w i v h l =
       below = λ j m. getD-set-other new i j v 0 (λ e. omega arith) ∙ w .below j m;
       above = λ j m. getD-set-other new i j v 0 (λ e. omega arith) ∙ w .above j m;
     }
+
+pub untrue : {A : Type 0} → false ≡ true → A
+untrue e = absurd (let z : _≡_ {A = ℕ} 0 1 = cc in omega arith)
 
 module _ (s : List ℕ) (from stride room base : ℕ) where
   module _ (ps : List ℕ) (at n k wait : ℕ) (l : Linked s from stride room base ps at n k wait) where
@@ -230,6 +234,22 @@ module _ (s : List ℕ) (a b c d : ℕ) where
 
   pub four-at : (p q u v : ℕ) → behind s a At Beyond ≡ At p → behind s b At Beyond ≡ At q → behind s c At Beyond ≡ At u → behind s d At Beyond ≡ At v → FourBehind s a b c d (four.At p q u v)
   four-at p q u v e f g h = record { are = λ p′ q′ u′ v′ i. (cc, cc, cc, cc) }
+
+  pub before-beyond : (x y z w : ℕ) → FourBefore s a x b y c z d w four.Beyond
+  before-beyond x y z w = record { are = four-beyond; low = λ p q u v e. let z : _≡_ {A = ℕ} 0 1 = cc in absurd (omega arith) }
+
+  pub before-at : (x y z w : ℕ) {k l m n : Place} → Before s a x k → Before s b y l → Before s c z m → Before s d w n → (p q u v : ℕ) → k ≡ At p → l ≡ At q → m ≡ At u → n ≡ At v
+      → FourBefore s a x b y c z d w (four.At p q u v)
+  before-at x y z w e f g h p q u v i j o t =
+      record {
+        are = four-at p q u v (e .is p i) (f .is q j) (g .is u o) (h .is v t);
+        low = λ p′ q′ u′ v′ r.
+            let p-is : p ≡ p′ = cc in
+            let q-is : q ≡ q′ = cc in
+            let u-is : u ≡ u′ = cc in
+            let v-is : v ≡ v′ = cc in
+            (rw (sym p-is) (e .low p i), rw (sym q-is) (f .low q j), rw (sym u-is) (g .low u o), rw (sym v-is) (h .low v t));
+      }
 
   pub stretched-start : (most : ℕ) → Stretched s a b c d most (record { a = a; b = b; c = c; d = d; n = 0 })
   unfolding passed

@@ -1,8 +1,9 @@
 // The check of a stream in four chains of records from guessed starts. A guess that is wrong costs time and changes no answer.
 ghost use mathlib.Core.Path.{_≡_};
+ghost use mathlib.Core.Bool.{true};
 ghost use Prim.Native.Nat.{ℕ, _≤_, _<_, _+_, _*_};
 ghost use lib.ListN.{length};
-ghost use Rattle.streams.specs.Chains.{Linked, Dued, FourBehind, Stretched, Stepped, Finished, ChainedFor};
+ghost use Rattle.streams.specs.Chains.{Linked, Dued, FourBefore, Stretched, Stepped, Finished, ChainedFor};
 ghost use Rattle.streams.specs.Places.{NotedFor};
 ghost use Rattle.streams.specs.declared.stream.Place.the-variants.{At, Beyond};
 use crate::places::NotedCheck;
@@ -12,6 +13,7 @@ use crate::places::entries;
 use crate::places::stride_for;
 use crate::places::wide;
 use crate::refusal::StreamKind;
+use crate::short::before;
 use crate::short::short_chains;
 use crate::stream::Head;
 use crate::stream::Place;
@@ -128,26 +130,9 @@ fn finish(
     Chain::Apart
 }
 
-fn four_behind(s: &[u8], a: usize, b: usize, c: usize, d: usize) -> FourPlaces
-    ensures { λ r. ⌜ FourBehind (now (s .entry)) a b c d r ⌝ }
-{
-    let Place::At(p) = behind_record(s, a) else {
-        return FourPlaces::Beyond;
-    };
-    let Place::At(q) = behind_record(s, b) else {
-        return FourPlaces::Beyond;
-    };
-    let Place::At(u) = behind_record(s, c) else {
-        return FourPlaces::Beyond;
-    };
-    let Place::At(v) = behind_record(s, d) else {
-        return FourPlaces::Beyond;
-    };
-    FourPlaces::At(p, q, u, v)
-}
-
-// Whether one of four places is at its goal, or behind it.
-fn one_there(
+// The places behind four records, each before its goal.
+fn four_before(
+    s: &[u8],
     a: usize,
     x: usize,
     b: usize,
@@ -155,21 +140,101 @@ fn one_there(
     c: usize,
     z: usize,
     d: usize,
-    end: usize,
-) -> bool {
-    if x <= a {
-        return true;
-    }
-    if y <= b {
-        return true;
-    }
-    if z <= c {
-        return true;
-    }
-    end <= d
+    w: usize,
+) -> FourPlaces
+    requires { ⌜ (a < x) × (x < length (now s)) × (b < y) × (y < length (now s)) × (c < z) × (z < length (now s)) × (d < w) × (w < length (now s)) ⌝ }
+    ensures { λ r. ⌜ FourBefore (now (s .entry)) a x b y c z d w r ⌝ }
+{
+    let Place::At(p) = before(s, a, x) else {
+        return FourPlaces::Beyond;
+    };
+    let Place::At(q) = before(s, b, y) else {
+        return FourPlaces::Beyond;
+    };
+    let Place::At(u) = before(s, c, z) else {
+        return FourPlaces::Beyond;
+    };
+    let Place::At(v) = before(s, d, w) else {
+        return FourPlaces::Beyond;
+    };
+    FourPlaces::At(p, q, u, v)
 }
 
-// At most so many records of each of four chains, in lockstep, until one is at its goal.
+// At most so many records of each of four chains, in lockstep, until one is at its goal. All are before their goals.
+fn in_step(
+    s: &[u8],
+    a: usize,
+    b: usize,
+    c: usize,
+    d: usize,
+    x: usize,
+    y: usize,
+    z: usize,
+    w: usize,
+    most: u32,
+) -> Four
+    requires { ⌜ (a < x) × (x < length (now s)) × (b < y) × (y < length (now s)) × (c < z) × (z < length (now s)) × (d < w) × (w < length (now s)) ⌝ }
+    ensures { λ r. ⌜ Stretched (now (s .entry)) a b c d most r ⌝ }
+{
+    let mut p = a;
+    let mut q = b;
+    let mut u = c;
+    let mut v = d;
+    let mut n: u32 = 0;
+    while n < most {
+        let FourPlaces::At(p2, q2, u2, v2) = four_before(s, p, x, q, y, u, z, v, w) else {
+            return four_at(p, q, u, v, n);
+        };
+        p = p2;
+        q = q2;
+        u = u2;
+        v = v2;
+        n += 1;
+    }
+    four_at(p, q, u, v, n)
+}
+
+fn four_at(a: usize, b: usize, c: usize, d: usize, n: u32) -> Four
+    ensures { λ r. ⌜ r ≡ (record { a = a; b = b; c = c; d = d; n = n }) ⌝ }
+{
+    Four { a, b, c, d, n }
+}
+
+// Whether a place is before its goal, and that inside.
+fn lies_before(at: usize, goal: usize, end: usize) -> bool
+    ensures { λ r. ⌜ (r ≡ true → (at < goal) × (goal < end)) ⌝ }
+{
+    if at < goal {
+        if goal < end {
+            return true;
+        }
+    }
+    false
+}
+
+// The same, where the last chain goes to the end of the stream.
+fn in_step_to_end(
+    s: &[u8],
+    a: usize,
+    b: usize,
+    c: usize,
+    d: usize,
+    x: usize,
+    y: usize,
+    z: usize,
+    most: u32,
+) -> Four
+    requires { ⌜ (a < x) × (x < length (now s)) × (b < y) × (y < length (now s)) × (c < z) × (z < length (now s)) ⌝ }
+    ensures { λ r. ⌜ Stretched (now (s .entry)) a b c d most r ⌝ }
+{
+    let w = s.len() - 1;
+    if w <= d {
+        return four_at(a, b, c, d, 0);
+    }
+    in_step(s, a, b, c, d, x, y, z, w, most)
+}
+
+// The same, from anywhere to anywhere: no step where a chain is not before its goal.
 fn stretch(
     s: &[u8],
     a: usize,
@@ -184,43 +249,14 @@ fn stretch(
     ensures { λ r. ⌜ Stretched (now (s .entry)) a b c d most r ⌝ }
 {
     let end = s.len();
-    let mut p = a;
-    let mut q = b;
-    let mut u = c;
-    let mut v = d;
-    let mut n: u32 = 0;
-    while n < most {
-        if one_there(p, x, q, y, u, z, v, end) {
-            return Four {
-                a: p,
-                b: q,
-                c: u,
-                d: v,
-                n,
-            };
+    if lies_before(a, x, end) {
+        if lies_before(b, y, end) {
+            if lies_before(c, z, end) {
+                return in_step_to_end(s, a, b, c, d, x, y, z, most);
+            }
         }
-        let FourPlaces::At(p2, q2, u2, v2) = four_behind(s, p, q, u, v) else {
-            return Four {
-                a: p,
-                b: q,
-                c: u,
-                d: v,
-                n,
-            };
-        };
-        p = p2;
-        q = q2;
-        u = u2;
-        v = v2;
-        n += 1;
     }
-    Four {
-        a: p,
-        b: q,
-        c: u,
-        d: v,
-        n,
-    }
+    four_at(a, b, c, d, 0)
 }
 
 // Four chains, in lockstep until one is at its goal; each notes its places in its own part.

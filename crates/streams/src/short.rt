@@ -12,7 +12,7 @@ use crate::stream::shorter;
 use crate::stream::two;
 
 // The place behind the record at a place, where that is before a goal.
-fn before(s: &[u8], at: usize, goal: usize) -> Place
+pub fn before(s: &[u8], at: usize, goal: usize) -> Place
     requires { ⌜ (at < goal) × (goal < length (now s)) ⌝ }
     ensures { λ r. ⌜ Before (now (s .entry)) at goal r ⌝ }
 {
