@@ -35,7 +35,6 @@ use streams::stream::next_cursor;
 use streams::stream::record_at;
 use streams::stream::records_of;
 use streams::stream::walk_from;
-use wire::field::left;
 use wire::name::Name;
 
 // What a record says of a forward reference: its size, or nothing.
@@ -136,7 +135,10 @@ fn pair(low: u8, high: u8) -> u16
 fn passed_over(s: &[u8], at: usize) -> bool
     ensures { λ r. ⌜ r ≡ passedOver (now (s .entry)) at ⌝ }
 {
-    if left(s.len(), at) < 8 {
+    if s.len() < 8 {
+        return false;
+    }
+    if s.len() - 8 < at {
         return false;
     }
     if is_layout(pair(s[at + 2], s[at + 3])) {
