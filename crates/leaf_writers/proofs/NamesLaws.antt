@@ -14,9 +14,10 @@ use Rattle.wire.specs.Text.{bytes}
 use Rattle.wire.specs.declared.name.Name.{Name}
 use Rattle.streams.specs.Refusal.{numberOf, detailOf}
 use Rattle.streams.specs.declared.refusal.Refusal.{Refusal}
-use Rattle.primitives.specs.Primitive.{primitives, firstOf, listed, nowhere}
+use Rattle.primitives.specs.Primitive.{primitives, firstOf, empty, named}
 use Rattle.primitives.specs.declared.PrimitiveKind.{PrimitiveKind}
-use Rattle.primitives.specs.declared.PrimitiveSearch.{PrimitiveSearch}
+use Rattle.primitives.specs.declared.KindName.{KindName}
+use Rattle.primitives.proofs.Table.{map-first}
 use Rattle.interpreter.specs.Trace.{tr, refused, count}
 use Rattle.rules.specs.Text.{digit, functionName, primitiveName, missingMark, unimplementedMark}
 use Rattle.rules.specs.Record.{nameAt}
@@ -65,24 +66,14 @@ unfolding functionName
 name-itself [] h = absurd (h refl)
 name-itself (b ∷ s) h = refl
 
--- A search answers with what it finds.
-pub first-as : {A : Type 0} (f : PrimitiveSearch → A) (code : ℕ) (l : List PrimitiveKind) → f (firstOf code l listed nowhere) ≡ firstOf code l (λ k. f (listed k)) (f nowhere)
-unfolding firstOf
-first-as f code [] = refl
-first-as f code (k ∷ l) = by (eqb (k .code) code) (first-as f code l)
-  where
-    by : (b : Bool) → f (firstOf code l listed nowhere) ≡ firstOf code l (λ k. f (listed k)) (f nowhere)
-        → f (pick b (listed k) (firstOf code l listed nowhere)) ≡ pick b (f (listed k)) (firstOf code l (λ k. f (listed k)) (f nowhere))
-    by true rest = refl
-    by false rest = rest
-
-pub kind-name : (code : ℕ) (r : PrimitiveSearch) → r ≡ firstOf code primitives listed nowhere → take (r .kind .len) (r .kind .name) ≡ primitiveName code
+-- The name of a primitive's kind.
+pub kind-name : (code : ℕ) (r : KindName) → r ≡ firstOf code primitives named (named empty) → take (r .len) (r .bytes) ≡ primitiveName code
 unfolding primitiveName
-kind-name code r e = rw e (first-as (λ r. take (r .kind .len) (r .kind .name)) code primitives)
+kind-name code r e = rw e (map-first (λ (r : KindName). take (r .len) (r .bytes)) code primitives named (named empty))
 
 -- No name is longer than its bytes.
-abbrev Short : PrimitiveSearch → Type 0
-Short r = r .kind .len ≤ length (r .kind .name)
+abbrev Short : KindName → Type 0
+Short r = r .len ≤ length (r .bytes)
 
 short : List PrimitiveKind → Bool
 short [] = true
@@ -95,18 +86,18 @@ shown a b h = by (decLt b a)
     by (yes d) = absurd (let z : true ≡ false = sym h ∙ lt-leb a b d in let y : _≡_ {A = ℕ} 0 1 = cc in omega arith)
     by (no d) = omega arith
 
-first-short : (code : ℕ) (l : List PrimitiveKind) → short l ≡ true → Short (firstOf code l listed nowhere)
+first-short : (code : ℕ) (l : List PrimitiveKind) → short l ≡ true → Short (firstOf code l named (named empty))
 unfolding firstOf short
 first-short code [] h = omega arith
 first-short code (k ∷ l) h = by (eqb (k .code) code) (leb (k .len) (length (k .name))) refl h (λ g. first-short code l g)
   where
-    by : (b c : Bool) → leb (k .len) (length (k .name)) ≡ c → (c && short l) ≡ true → (short l ≡ true → Short (firstOf code l listed nowhere))
-        → Short (pick b (listed k) (firstOf code l listed nowhere))
+    by : (b c : Bool) → leb (k .len) (length (k .name)) ≡ c → (c && short l) ≡ true → (short l ≡ true → Short (firstOf code l named (named empty)))
+        → Short (pick b (named k) (firstOf code l named (named empty)))
     by true true e g rest = shown (k .len) (length (k .name)) e
     by false true e g rest = rest g
     by true false e g rest = absurd (let z : _≡_ {A = ℕ} 0 1 = cc in omega arith)
     by false false e g rest = absurd (let z : _≡_ {A = ℕ} 0 1 = cc in omega arith)
 
-pub kind-short : (code : ℕ) (r : PrimitiveSearch) → r ≡ firstOf code primitives listed nowhere → Short r
+pub kind-short : (code : ℕ) (r : KindName) → r ≡ firstOf code primitives named (named empty) → Short r
 unfolding primitives short
 kind-short code r e = rw e (first-short code primitives refl)

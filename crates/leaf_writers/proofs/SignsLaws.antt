@@ -20,7 +20,7 @@ use Rattle.pen.specs.Page.{Page, PageRead, readPage, ink, Wrote, writing}
 use Rattle.pen.proofs.Laws.{ink-append, ink-nil, run-say}
 use Rattle.context.specs.declared.levels.PtrAttributes.{PtrAttributes}
 use Rattle.context.specs.Context.{levelOf, levelAt}
-use Rattle.leaf_writers.specs.Signs.{behindWord, constText, spaced, levelText}
+use Rattle.leaf_writers.specs.Signs.{behindWord, classWord, constText, spaced, levelText}
 
 -- A text under a condition.
 pub text-on : (b : Bool) (s : List ℕ) → b ≡ true → writing s ≡ writing (pick b s [])
@@ -58,8 +58,25 @@ pub named-behind : (c : Settings) (only : Bool) (word name : List ℕ) → only 
 unfolding behindWord
 named-behind c only word name e h = simp (sym e ∙ h)
 
-pub class-as : (c : Settings) (k j : ClassKind) (name : List ℕ) → k ≡ j → writing (classText c j name) ≡ writing (classText c k name)
-class-as c k j name e = rw e
+-- The word of a kind of class: none where names stand alone, else that of the kind. Behind it the name makes the text.
+pub word-none : (c : Settings) (only : Bool) (k : ClassKind) → only ≡ c .nameOnly → only ≡ true → writing [] ≡ writing (classWord c k)
+unfolding classWord
+word-none c only kind.Class e h = simp (sym e ∙ h)
+word-none c only kind.Struct e h = simp (sym e ∙ h)
+word-none c only kind.Interface e h = simp (sym e ∙ h)
+
+pub word-some : (c : Settings) (only : Bool) (k j : ClassKind) (w : List ℕ) → only ≡ c .nameOnly → only ≡ false → k ≡ j → classWord c j ≡ pick (c .nameOnly) [] w → writing w ≡ writing (classWord c k)
+word-some c only k j w e h f g = rw (f, g, ← e, h)
+
+behind-word : (w : List ℕ) (b : Bool) (name : List ℕ) → writing (pick b [] (w ++ bytes " ") ++ name) ≡ writing (pick b name (w ++ (bytes " " ++ name)))
+behind-word w true name = refl
+behind-word w false name = rw (append-assoc w (bytes " ") name)
+
+pub class-behind : (c : Settings) (k : ClassKind) (name : List ℕ) → writing (classWord c k ++ name) ≡ writing (classText c k name)
+unfolding classWord classText worded
+class-behind c kind.Class name = behind-word (bytes "class") (c .nameOnly) name
+class-behind c kind.Struct name = behind-word (bytes "struct") (c .nameOnly) name
+class-behind c kind.Interface name = behind-word (bytes "interface") (c .nameOnly) name
 
 -- The sign of a mode.
 pub sign-as : (m n : PointerMode) → m ≡ n → writing (sign n) ≡ writing (sign m)

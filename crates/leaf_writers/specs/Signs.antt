@@ -6,12 +6,20 @@ use lib.ListN.{getD}
 use lib.Dec.{ltb}
 use Rattle.wire.specs.Field.{pick}
 use Rattle.wire.specs.Text.{bytes}
+use Rattle.codeview.specs.declared.record.ClassKind.{ClassKind}
+use Rattle.codeview.specs.declared.record.ClassKind.the-variants as kind
 use Rattle.rules.specs.Flags.{Settings}
 use Rattle.rules.specs.Text.{Level, sign}
 
 -- A name behind a word, or alone: `worded`, the word given by its bytes.
 unfoldable pub behindWord : Settings → List ℕ → List ℕ → List ℕ
 behindWord c word name = pick (c .nameOnly) name (word ++ (bytes " " ++ name))
+
+-- The word for a kind of class and a space; nothing where names stand alone.
+unfoldable pub classWord : Settings → ClassKind → List ℕ
+classWord c kind.Class = pick (c .nameOnly) [] (bytes "class ")
+classWord c kind.Struct = pick (c .nameOnly) [] (bytes "struct ")
+classWord c kind.Interface = pick (c .nameOnly) [] (bytes "interface ")
 
 -- The parts of a pointer level: the const of what is pointed to, whether a space stands before the sign, and all of it.
 unfoldable pub constText : Bool → Bool → List ℕ

@@ -3,7 +3,7 @@ ghost use mathlib.Core.Path.{_≡_};
 ghost use Rattle.rules.specs.Text.{primitiveText, classText};
 ghost use Rattle.pen.specs.Page.{page, Wrote, writing};
 ghost use Rattle.context.specs.Context.{settingsOf};
-ghost use Rattle.leaf_writers.specs.Signs.{behindWord};
+ghost use Rattle.leaf_writers.specs.Signs.{behindWord, classWord};
 use crate::fragments::both;
 use crate::names::emit_kind;
 use crate::settings::name_only;
@@ -46,12 +46,23 @@ pub fn emit_named(out: &mut [u8], p: Pen, call: Call, word: &[u8], name: &[u8]) 
     pen::text(out, r, name)
 }
 
+// The word for a kind of class and a space, unless names stand alone.
+fn emit_word(out: &mut [u8], p: Pen, call: Call, kind: ClassKind) -> Pen
+    ensures { λ r. ⌜ Wrote (page (now (out .entry)) p) (writing (classWord (settingsOf call) kind)) (page (now (out .exit)) r) ⌝ }
+{
+    if name_only(call) {
+        return p;
+    }
+    match kind {
+        ClassKind::Class => return pen::text(out, p, b"class "),
+        ClassKind::Struct => return pen::text(out, p, b"struct "),
+        ClassKind::Interface => return pen::text(out, p, b"interface "),
+    }
+}
+
 pub fn emit_class(out: &mut [u8], p: Pen, call: Call, kind: ClassKind, name: &[u8]) -> Pen
     ensures { λ r. ⌜ Wrote (page (now (out .entry)) p) (writing (classText (settingsOf call) kind (now (name .entry)))) (page (now (out .exit)) r) ⌝ }
 {
-    match kind {
-        ClassKind::Class => emit_named(out, p, call, b"class", name),
-        ClassKind::Struct => emit_named(out, p, call, b"struct", name),
-        ClassKind::Interface => emit_named(out, p, call, b"interface", name),
-    }
+    let q = emit_word(out, p, call, kind);
+    pen::text(out, q, name)
 }

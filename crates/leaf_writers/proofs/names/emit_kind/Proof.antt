@@ -9,14 +9,14 @@ use borrow.Author.Needs.{needs}
 use Rattle.leaf_writers.proofs.names.emit_kind.Statement.{statement}
 use Rattle.leaf_writers.proofs.names.emit_kind.Tie as tie
 
-find-primitive-requires : tie.Need-find-primitive-requires
-find-primitive-requires c κs = search needs
+kind-name-requires : tie.Need-kind-name-requires
+kind-name-requires c κs = search needs
 
-array-share-prefix-name : tie.Need-array-share-prefix-name
-array-share-prefix-name c = kind-short _ _ (c .before .before .before .find-primitive .ensures)
+array-share-prefix-bytes : tie.Need-array-share-prefix-bytes
+array-share-prefix-bytes c = kind-short _ _ (c .before .before .kind-name .ensures .0)
 
 slice-aggregate-text : tie.Need-slice-aggregate-text
-slice-aggregate-text c = sym (length-take-le (c .before .before .before .before .find-primitive .result .kind .len) (c .before .before .before .before .find-primitive .result .kind .name) (kind-short _ _ (c .before .before .before .before .find-primitive .ensures)))
+slice-aggregate-text c = sym (length-take-le (c .before .before .before .kind-name .result .len) (c .before .before .before .kind-name .result .bytes) (kind-short _ _ (c .before .before .before .kind-name .ensures .0)))
 
 text-requires : tie.Need-text-requires
 text-requires c κs = search needs
@@ -25,14 +25,14 @@ same-length : tie.Need-same-length
 same-length c = search needs
 
 returns : tie.Need-returns
-returns c = wrote-by (c .before .before .text .ensures) (ap writing (kind-name _ _ (c .before .before .before .before .before .before .before .find-primitive .ensures)))
+returns c = wrote-by (c .before .before .text .ensures) (ap writing (kind-name _ _ (c .before .before .before .before .before .before .kind-name .ensures .0)))
 
 pub emit-kind-spec : {M : Type 1} → statement M
 emit-kind-spec =
     tie.close
     (tie.spec
-    find-primitive-requires
-    array-share-prefix-name
+    kind-name-requires
+    array-share-prefix-bytes
     slice-aggregate-text
     text-requires
     same-length
