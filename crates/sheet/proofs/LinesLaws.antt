@@ -137,7 +137,7 @@ refused-line n f e g = rw (e, g, refused-as n f) refl
 joined-length : (a b : List ℕ) (m n : ℕ) → length a ≤ m → length b ≤ n → length (a ++ b) ≤ m + n
 joined-length a b m n h k = rw (length-append a b) (omega arith)
 
-numeral-length : (b f n : ℕ) → length (numeral b f n) ≤ f
+pub numeral-length : (b f n : ℕ) → length (numeral b f n) ≤ f
 unfolding numeral
 numeral-length b zero n = omega arith
 numeral-length b (suc f) n = go (ltb n b) (numeral-length b f (n / b))

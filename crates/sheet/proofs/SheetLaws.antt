@@ -2,22 +2,22 @@
 use Prim.Native.Nat.{ℕ, zero, suc, _+_, _-_, _≤_, _<_}
 use mathlib.Core.Path.{_≡_, refl, ap, ap₂, sym, _∙_}
 use mathlib.Core.Bool.{Bool, true, false}
-use mathlib.Core.Logic.{_⊎_, inl, inr}
 use mathlib.Core.List.{List, [], _∷_, _++_, append-assoc, append-nil}
 use lib.Dec.{leb, ltb, eqb}
-use lib.ListN.{length, take, drop, getD, length-append, length-drop, length-take}
-use lib.Seq.{sets-eq, drop-nil, drop-drop, take-append-seam}
+use lib.ListN.{length, take, drop, getD, set, length-append, length-drop, length-take}
+use lib.Seq.{sets-eq, drop-nil, drop-drop, take-append-seam, take-append-le, take-append-add, drop-append-le, drop-append-add, drop-set-add, take-suc-set, take-at, drop-at, length-take-le}
 use native.Mathlib.Nat.{zero-add, add-zero, sub-zero}
 use native.Mathlib.Omega.{arith}
 use native.Mathlib.Decide.{decLt, decLe}
 use borrow.Author.Tests.{lt-ltb, le-ltb, lt-leb, le-leb}
 use Rattle.wire.specs.Field.{pick}
+use Rattle.wire.specs.Text.{bytes}
 use Rattle.interpreter.specs.Trace as trace
 use Rattle.interpreter.specs.Trace.{Trace, tr, done, missing, refused, halted, again, deep, long, unfinished, count}
 use Rattle.rules.specs.Call as call
-use Rattle.pen.specs.Page.{Page, PageRead, page, readPage, Wrote, writing, ink, stopOf}
+use Rattle.pen.specs.Page.{page, Wrote, writing, stopOf}
 use Rattle.pen.specs.declared.Pen.{Pen}
-use Rattle.pen.proofs.Laws.{run-say, ran-fits, Ran, ink-append, ink-length, wrote-length}
+use Rattle.pen.proofs.Laws.{ran-fits, Ran}
 use Rattle.checked_calls.specs.Answers.{Result, ofAnswer, given, started, laid}
 use Rattle.checked_calls.specs.declared.answer.Answer.{Answer}
 use Rattle.checked_calls.specs.declared.answer.Answer.the-variants as answer
@@ -25,28 +25,32 @@ use Rattle.wire.proofs.Laws.{field-short}
 use Rattle.wire.specs.Name.{zeroFrom}
 use Rattle.wire.specs.declared.name.Name.{Name}
 use Rattle.streams.specs.declared.refusal.Refusal.{Refusal}
-use Rattle.rules.specs.Text.{decimal}
+use Rattle.rules.specs.Text.{decimal, hex, numeral, digit}
 use Rattle.rules.specs.Record.{nameAt}
-use Rattle.streams.specs.declared.refusal.StreamKind.the-variants.{Types, Ids}
 use Rattle.streams.specs.declared.refusal.Refusal.the-variants.{UnknownCommand, Missing, CircularTypeDefinition, TooManyOpen, ChainTooLong, NoRoom}
-use Rattle.rules.specs.Call.{functionOutcome, idOutcome, typeOutcome, sizeOutcome}
-use Rattle.checked_calls.specs.Checks.{ofSizeAnswer, functionOver, idOver, typeOver, sizeOver}
+use Rattle.rules.specs.Call.{functionOutcome, idOutcome, typeOutcome}
+use Rattle.checked_calls.specs.Checks.{ofSizeAnswer, functionOver, idOver, typeOver}
 use Rattle.rules.specs.Places.{Near}
-use Rattle.checked_calls.specs.Kept.{KeptOf}
+use Rattle.checked_calls.specs.Kept.{Kept}
 use Rattle.checked_calls.proofs.CallsLaws.{function-over, id-over, type-over, size-over}
 use Rattle.checked_calls.specs.declared.calls.SizeAnswer.{SizeAnswer}
 use Rattle.checked_calls.specs.declared.calls.SizeAnswer.the-variants as sized
 use Rattle.sheet.specs.Command.{commandAt, commandBy, givenName}
-use Rattle.sheet.proofs.LinesLaws.{told-refused, refused-length, text-length, size-length}
-use Rattle.sheet.specs.Line.{toldLine, textLine, refusedLine, textOf, outcomeLine, sizeLine}
+use Rattle.sheet.proofs.LinesLaws.{told-refused, refused-length, text-length, size-length, numeral-length}
+use Rattle.sheet.specs.Line.{head, toldLine, textLine, refusedLine, textOf, outcomeLine, sizeLine}
 use Rattle.sheet.specs.declared.command.Command.{Command}
 use Rattle.sheet.specs.declared.command.Command.the-variants.{End, Flags, PointerSize, TypeText, TypeSize, IdText, FunctionText, Faulty}
-use Rattle.sheet.specs.Sheet.{stepOf, behindOf, afterOf, answerLine, functionLine, Fit, ahead, fit, lineOf, byStep, linesFrom, sheetLines, begin}
-use Rattle.sheet.specs.Printed.{Whole, Placed, placedOn, putOf, Shown, shown, laidOut, joined, Continues}
+use Rattle.sheet.specs.Sheet.{stepOf, behindOf, afterOf, answerLine, Calls, callsTo, callsOver, functionLine, Fit, ahead, fit, lineOf, byStep, linesFrom, linesBy, sheetLines, linesOver, sheetFit, fitOver, begin}
+use Rattle.sheet.specs.Printed.{Placed, placed, putOf, Shown, shown, laidOut, joined, Continues}
 use Rattle.sheet.specs.declared.State.{State}
 use Rattle.sheet.specs.declared.Step.{Step}
 use Rattle.sheet.specs.declared.Step.the-variants as step
 use Rattle.sheet.specs.declared.Printed.{Printed}
+
+-- A line at the start of a buffer, the rest as it was, and its length.
+pub record Whole (buf l : List ℕ) (out : List ℕ) (n : ℕ) : Type 0 where
+  pub length-is : n ≡ length l
+  pub buffer-is : out ≡ l ++ drop (length l) buf
 
 -- A line that was written from the start of a buffer that has room for it.
 pub line-whole : {buf b l : List ℕ} {p q : Pen} → p ≡ started (length buf) → Wrote (page buf p) (writing l) (page b q) → length l ≤ length buf → Whole buf l b (q .at)
@@ -58,46 +62,71 @@ line-whole {buf} {b} {l} {p} {q} e w h =
     let k : 0 + length l ≤ length buf = omega arith in
     record { length-is = r .at; buffer-is = r .buffer ∙ (rw (sets-eq l buf 0 k, zero-add) refl) }
 
--- The line of a text call's answer is that of its outcome: what is told is the same, and the text is the start of the buffer.
+whole-taken : {buf l out : List ℕ} {n : ℕ} → Whole buf l out n → take n out ≡ l
+whole-taken {buf} {l} w = rw (w .length-is, w .buffer-is) (take-append-seam l (drop (length l) buf))
+
+pub whole-named : {buf l out : List ℕ} {n : ℕ} → Whole buf l out n → nameAt out (record { start = 0; len = n }) ≡ l
+unfolding nameAt
+whole-named w = whole-taken w
+
+-- The line of a text call's answer is that of its outcome: what is told is the same, and the text is the start of the call's buffer, which stands in the line.
 module _ (n : ℕ) (buf out : List ℕ) where
   text-taken : (o : call.Outcome) → take (call.ofText o .value) (call.bufferAfter buf o) ≡ textOf o
   unfolding call.ofText call.bufferAfter textOf
   text-taken (call.text bs k) = take-append-seam bs (drop (length bs) buf)
   text-taken (call.stopped f) = refl
 
-  pub answer-line : (o : call.Outcome) (a : Answer) → given out a ≡ laid buf o → answerLine n out (ofAnswer a) ≡ outcomeLine n o
-  unfolding outcomeLine laid answerLine
-  answer-line o a e =
-      let t : ofAnswer a ≡ call.ofText o = ap (λ (r : Result). r .told) e in
-      let b : out ≡ call.bufferAfter buf o = ap (λ (r : Result). r .buf) e in
-      rw (t, b, text-taken o) refl
+  value-room : (o : call.Outcome) → length (call.bufferAfter buf o) ≡ length buf → call.ofText o .value ≤ length buf
+  unfolding call.ofText call.bufferAfter
+  value-room (call.text bs k) h = let l = length-append bs (drop (length bs) buf) in omega arith
+  value-room (call.stopped f) h = omega arith
 
--- What was printed so far, from the start of the buffer.
-module _ {out₀ out bs : List ℕ} (p : Pen) (e : readPage (page out p) ≡ ink (readPage (page out₀ (started (length out₀)))) bs) (h : length bs ≤ length out₀) where
-  printed-so : Whole out₀ bs out (p .at)
-  printed-so = line-whole refl (record { is = e ∙ sym (run-say (readPage (page out₀ (started (length out₀)))) bs) }) h
+  module _ (o : call.Outcome) (a : Answer) (e : given out a ≡ laid buf o) (h : length out ≡ length buf) where
+    told-is : ofAnswer a ≡ call.ofText o
+    unfolding laid
+    told-is = ap (λ (r : Result). r .told) e
 
--- The lines that are still to come, `n` of them passed: what was printed so far and what fits of the rest is what fits of all.
-pub record Pending (out₀ : List ℕ) (skip : ℕ) (all : List (List ℕ)) (out : List ℕ) (p : Pen) (n : ℕ) (rest : List (List ℕ)) : Type 0 where
+    left-is : out ≡ call.bufferAfter buf o
+    unfolding laid
+    left-is = ap (λ (r : Result). r .buf) e
+
+    pub answer-room : ofAnswer a .value ≤ length buf
+    answer-room = rw told-is (value-room o (ap length (sym left-is) ∙ h))
+
+    pub answer-behind : (line rest : List ℕ) → 27 ≤ length line → answerLine n (drop 27 (take 27 line ++ (out ++ rest))) (ofAnswer a) ≡ outcomeLine n o
+    unfolding outcomeLine answerLine
+    answer-behind line rest i =
+        let d : drop 27 (take 27 line ++ (out ++ rest)) ≡ out ++ rest = drop-at (take 27 line) (out ++ rest) 27 (length-take-le 27 line i) in
+        let k = answer-room in
+        let t : take (ofAnswer a .value) (out ++ rest) ≡ take (ofAnswer a .value) out = take-append-le (ofAnswer a .value) out rest (omega arith) in
+        let x : take (ofAnswer a .value) out ≡ textOf o = rw (told-is, left-is) (text-taken o) in
+        ap (λ (l : List ℕ). toldLine n (ofAnswer a) (take (ofAnswer a .value) l)) d ∙ ap (toldLine n (ofAnswer a)) (t ∙ x) ∙ ap (λ r. toldLine n r (textOf o)) told-is
+
+-- What was printed so far, from the start of the buffer; the lines that are still to come, `n` of them passed: what was printed and what fits of the rest is
+-- what fits of all.
+pub record Pending (out₀ : List ℕ) (skip : ℕ) (all : List (List ℕ)) (out : List ℕ) (at : ℕ) (n : ℕ) (rest : List (List ℕ)) : Type 0 where
   pub bs : List ℕ
-  pub page-is : readPage (page out p) ≡ ink (readPage (page out₀ (started (length out₀)))) bs
+  pub so : Whole out₀ bs out at
   pub room : length bs ≤ length out₀
   pub is : ahead bs (n - skip) (fit (length out₀ - length bs) (drop (skip - n) rest)) ≡ fit (length out₀) (drop skip all)
 
 true-false : true ≡ false → ⊥
 true-false e = let z : _≡_ {A = ℕ} 0 1 = ap (λ (b : Bool). pick b 0 1) e in absurd (omega arith)
 
-put-passed : (g : PageRead) (b : Bool) (l : List ℕ) → b ≡ true → putOf g b l ≡ placedOn g false
-unfolding putOf
-put-passed g b l e = rw e refl
+abbrev inked : List ℕ → ℕ → List ℕ → List ℕ
+inked buf at l = take at buf ++ (l ++ drop (at + length l) buf)
 
-put-stuck : (g : PageRead) (b : Bool) (l : List ℕ) → b ≡ false → leb (length l) (length (g .buf) - g .pen .at) ≡ false → putOf g b l ≡ placedOn g true
+put-passed : (buf : List ℕ) (at : ℕ) (b : Bool) (l : List ℕ) → b ≡ true → putOf buf at b l ≡ placed buf at false
 unfolding putOf
-put-stuck g b l e f = rw (e, f) refl
+put-passed buf at b l e = rw e refl
 
-put-inked : (g : PageRead) (b : Bool) (l : List ℕ) → b ≡ false → leb (length l) (length (g .buf) - g .pen .at) ≡ true → putOf g b l ≡ placedOn (ink g l) false
+put-stuck : (buf : List ℕ) (at : ℕ) (b : Bool) (l : List ℕ) → b ≡ false → leb (length l) (length buf - at) ≡ false → putOf buf at b l ≡ placed buf at true
 unfolding putOf
-put-inked g b l e f = rw (e, f) refl
+put-stuck buf at b l e f = rw (e, f) refl
+
+put-inked : (buf : List ℕ) (at : ℕ) (b : Bool) (l : List ℕ) → b ≡ false → leb (length l) (length buf - at) ≡ true → putOf buf at b l ≡ placed (inked buf at l) (at + length l) false
+unfolding putOf
+put-inked buf at b l e f = rw (e, f) refl
 
 -- a line without room
 not-fits : (room : ℕ) (l : List ℕ) (rest : List (List ℕ)) (k : ℕ) → k ≡ 0 → leb (length l) room ≡ false
@@ -114,87 +143,97 @@ does-fit room l rest k e f = rw (e, f) refl
 two-ahead : (a b : List ℕ) (m : ℕ) (f : Fit) → ahead a m (ahead b 1 f) ≡ ahead (a ++ b) (m + 1) f
 two-ahead a b m f = let k : m + (1 + f .lines) ≡ (m + 1) + f .lines = omega arith in rw (append-assoc, k) refl
 
-module _ (out₀ : List ℕ) (skip : ℕ) (all : List (List ℕ)) where
-  pub pending-first : (p : Pen) → p ≡ started (length out₀) → Pending out₀ skip all out₀ p 0 all
-  unfolding ink
-  pending-first p e =
-      let k : 0 - skip ≡ 0 = omega arith in
-      record { bs = []; page-is = rw e refl; room = omega arith; is = rw (k, sub-zero, sub-zero, zero-add) refl }
+-- One line more behind what was printed.
+inked-on : {out₀ bs out : List ℕ} {at : ℕ} (l : List ℕ) → Whole out₀ bs out at → length bs ≤ length out₀ → Whole out₀ (bs ++ l) (inked out at l) (at + length l)
+inked-on {out₀} {bs} {out} {at} l w h =
+    let n = length-append bs l in
+    let t : take at out ≡ bs = whole-taken w in
+    let d : drop (at + length l) out ≡ drop (length (bs ++ l)) out₀ =
+    ap (λ k. drop (k + length l) out) (w .length-is) ∙ ap (drop (length bs + length l)) (w .buffer-is) ∙ drop-append-add bs (drop (length bs) out₀) (length l)
+    ∙ drop-drop (length l) (length bs) out₀ ∙ ap (λ k. drop k out₀) (sym n) in
+    record {
+      length-is = ap (λ k. k + length l) (w .length-is) ∙ sym n;
+      buffer-is = ap (λ (x : List ℕ). x ++ (l ++ drop (at + length l) out)) t ∙ ap (λ (x : List ℕ). bs ++ (l ++ x)) d ∙ sym (append-assoc bs l (drop (length (bs ++ l)) out₀));
+    }
 
-  pending-as : {out : List ℕ} {p : Pen} {n m : ℕ} {rest : List (List ℕ)} → n ≡ m → Pending out₀ skip all out p n rest → Pending out₀ skip all out p m rest
+module _ (out₀ : List ℕ) (skip : ℕ) (all : List (List ℕ)) where
+  pub pending-first : Pending out₀ skip all out₀ 0 0 all
+  pending-first =
+      let k : 0 - skip ≡ 0 = omega arith in
+      record { bs = []; so = record { length-is = refl; buffer-is = refl }; room = omega arith; is = rw (k, sub-zero, sub-zero, zero-add) refl }
+
+  pending-as : {out : List ℕ} {at : ℕ} {n m : ℕ} {rest : List (List ℕ)} → n ≡ m → Pending out₀ skip all out at n rest → Pending out₀ skip all out at m rest
   pending-as e g = rw e at g
 
-  module _ {out : List ℕ} {p : Pen} {n : ℕ} where
-    pub pending-at : {rest : List (List ℕ)} → Pending out₀ skip all out p n rest → p .at ≤ length out
-    pending-at g =
-        let w = printed-so _ (g .page-is) (g .room) in
-        rw (w .buffer-is, w .length-is, length-append (g .bs) (drop (length (g .bs)) out₀)) (omega arith)
+  module _ {out : List ℕ} {at : ℕ} {n : ℕ} where
+    pub pending-at : {rest : List (List ℕ)} → Pending out₀ skip all out at n rest → at ≤ length out
+    pending-at g = rw (g .so .buffer-is, g .so .length-is, length-append (g .bs) (drop (length (g .bs)) out₀)) (omega arith)
 
     -- At the end: nothing more fits, or there is nothing more.
-    ended : {rest : List (List ℕ)} (m : Bool) (r : Printed) (g : Pending out₀ skip all out p n rest)
+    ended : {rest : List (List ℕ)} (m : Bool) (r : Printed) (g : Pending out₀ skip all out at n rest)
         → fit (length out₀ - length (g .bs)) (drop (skip - n) rest) ≡ record { bytes = []; lines = 0; more = m }
-        → (r .bytes ≡ p .at) × ((r .lines ≡ n - skip) × (r .more ≡ m)) → shown out r ≡ laidOut out₀ (fit (length out₀) (drop skip all))
+        → (r .bytes ≡ at) × ((r .lines ≡ n - skip) × (r .more ≡ m)) → shown out r ≡ laidOut out₀ (fit (length out₀) (drop skip all))
     unfolding laidOut
     ended {rest} m r g e f =
-        let w = printed-so _ (g .page-is) (g .room) in
         let k : ahead (g .bs) (n - skip) (record { bytes = []; lines = 0; more = m }) ≡ fit (length out₀) (drop skip all) = ap (ahead (g .bs) (n - skip)) (sym e) ∙ g .is in
-        rw (← k, f .0, f .1 .0, f .1 .1, w .buffer-is, w .length-is, append-nil, add-zero) refl
+        rw (← k, f .0, f .1 .0, f .1 .1, g .so .buffer-is, g .so .length-is, append-nil, add-zero) refl
 
     -- no line is left
-    pub all-shown : {r : Printed} → Pending out₀ skip all out p n [] → (r .bytes ≡ p .at) × ((r .lines ≡ n - skip) × (r .more ≡ false))
+    pub all-shown : {r : Printed} → Pending out₀ skip all out at n [] → (r .bytes ≡ at) × ((r .lines ≡ n - skip) × (r .more ≡ false))
         → shown out r ≡ laidOut out₀ (fit (length out₀) (drop skip all))
     unfolding fit
     all-shown {r} g f = ended false r g (rw (drop-nil (skip - n)) refl) f
 
-    module _ {l : List ℕ} {rest : List (List ℕ)} (g : Pending out₀ skip all out p n (l ∷ rest)) where
+    module _ {l : List ℕ} {rest : List (List ℕ)} (g : Pending out₀ skip all out at n (l ∷ rest)) where
       -- the room on the page is what is left of the buffer
-      room-is : length out - p .at ≡ length out₀ - length (g .bs)
+      room-is : length out - at ≡ length out₀ - length (g .bs)
       room-is =
-          let w = printed-so _ (g .page-is) (g .room) in
           let k = length-append (g .bs) (drop (length (g .bs)) out₀) in
           let m = length-drop (length (g .bs)) out₀ in
-          rw (w .buffer-is, w .length-is, k, m) (omega (arith, g .room))
+          rw (g .so .buffer-is, g .so .length-is, k, m) (omega (arith, g .room))
 
       -- the next line does not fit
-      pub line-stuck : {r : Printed} {out₁ : List ℕ} (q : Pen) → placedOn (readPage (page out₁ q)) true ≡ putOf (readPage (page out p)) (ltb n skip) l
-          → (r .bytes ≡ q .at) × ((r .lines ≡ n - skip) × (r .more ≡ true)) → shown out₁ r ≡ laidOut out₀ (fit (length out₀) (drop skip all))
-      line-stuck {r} {out₁} q e f = by (decLt n skip) (decLe (length l) (length out - p .at))
+      pub line-stuck : {r : Printed} {out₁ : List ℕ} {q : ℕ} → placed out₁ q true ≡ putOf out at (ltb n skip) l
+          → (r .bytes ≡ q) × ((r .lines ≡ n - skip) × (r .more ≡ true)) → shown out₁ r ≡ laidOut out₀ (fit (length out₀) (drop skip all))
+      line-stuck {r} {out₁} q e f = by (decLt n skip) (decLe (length l) (length out - at))
         where
-          by : Dec (n < skip) → Dec (length l ≤ length out - p .at) → shown out₁ r ≡ laidOut out₀ (fit (length out₀) (drop skip all))
-          by (yes h) d = absurd (let z : true ≡ false = ap (λ (x : Placed). x .full) (e ∙ put-passed (readPage (page out p)) (ltb n skip) l (lt-ltb n skip h)) in true-false z)
+          by : Dec (n < skip) → Dec (length l ≤ length out - at) → shown out₁ r ≡ laidOut out₀ (fit (length out₀) (drop skip all))
+          by (yes h) d = absurd (let z : true ≡ false = ap (λ (x : Placed). x .full) (e ∙ put-passed out at (ltb n skip) l (lt-ltb n skip h)) in true-false z)
           by (no h) (yes d) =
-              absurd (let z : true ≡ false = ap (λ (x : Placed). x .full) (e ∙ put-inked (readPage (page out p)) (ltb n skip) l (le-ltb n skip (omega arith)) (le-leb (length l) (length out - p .at) d)) in true-false z)
+              absurd (let z : true ≡ false = ap (λ (x : Placed). x .full) (e ∙ put-inked out at (ltb n skip) l (le-ltb n skip (omega arith)) (le-leb (length l) (length out - at) d)) in true-false z)
           by (no h) (no d) =
-              let x : placedOn (readPage (page out₁ q)) true ≡ placedOn (readPage (page out p)) true = e ∙ put-stuck (readPage (page out p)) (ltb n skip) l (le-ltb n skip (omega arith)) (lt-leb (length l) (length out - p .at) (omega arith)) in
-              let a : readPage (page out₁ q) ≡ readPage (page out p) = ap (λ (x : Placed). x .on) x in
-              let b : out₁ ≡ out = ap (λ (y : PageRead). y .buf) a in
-              let c : q .at ≡ p .at = ap (λ (y : PageRead). y .pen .at) a in
-              rw b (ended true r g (not-fits (length out₀ - length (g .bs)) l rest (skip - n) (omega arith) (rw (← room-is) (lt-leb (length l) (length out - p .at) (omega arith)))) (f .0 ∙ c, f .1))
+              let x : placed out₁ q true ≡ placed out at true = e ∙ put-stuck out at (ltb n skip) l (le-ltb n skip (omega arith)) (lt-leb (length l) (length out - at) (omega arith)) in
+              let b : out₁ ≡ out = ap (λ (y : Placed). y .buf) x in
+              let c : q ≡ at = ap (λ (y : Placed). y .at) x in
+              rw b (ended true r g (not-fits (length out₀ - length (g .bs)) l rest (skip - n) (omega arith) (rw (← room-is) (lt-leb (length l) (length out - at) (omega arith)))) (f .0 ∙ c, f .1))
 
       -- the next line is passed over, or stands on the page
-      pub line-placed : {out₁ : List ℕ} {q : Pen} → placedOn (readPage (page out₁ q)) false ≡ putOf (readPage (page out p)) (ltb n skip) l → Pending out₀ skip all out₁ q (n + 1) rest
-      line-placed {out₁} {q} e = by (decLt n skip) (decLe (length l) (length out - p .at))
+      pub line-placed : {out₁ : List ℕ} {q : ℕ} → placed out₁ q false ≡ putOf out at (ltb n skip) l → Pending out₀ skip all out₁ q (n + 1) rest
+      line-placed {out₁} {q} e = by (decLt n skip) (decLe (length l) (length out - at))
         where
-          by : Dec (n < skip) → Dec (length l ≤ length out - p .at) → Pending out₀ skip all out₁ q (n + 1) rest
+          by : Dec (n < skip) → Dec (length l ≤ length out - at) → Pending out₀ skip all out₁ q (n + 1) rest
           by (yes h) d =
-              let a : readPage (page out₁ q) ≡ readPage (page out p) = ap (λ (x : Placed). x .on) (e ∙ put-passed (readPage (page out p)) (ltb n skip) l (lt-ltb n skip h)) in
+              let x : placed out₁ q false ≡ placed out at false = e ∙ put-passed out at (ltb n skip) l (lt-ltb n skip h) in
+              let a : out₁ ≡ out = ap (λ (y : Placed). y .buf) x in
+              let c : q ≡ at = ap (λ (y : Placed). y .at) x in
               let b : skip - n ≡ suc (skip - (n + 1)) = omega arith in
               let m : n - skip ≡ (n + 1) - skip = omega arith in
-              record { bs = g .bs; page-is = a ∙ g .page-is; room = g .room; is = rw (b, m) at (g .is) }
+              record { bs = g .bs; so = rw (a, c) (g .so); room = g .room; is = rw (b, m) at (g .is) }
           by (no h) (no d) =
-              absurd (let z : false ≡ true = ap (λ (x : Placed). x .full) (e ∙ put-stuck (readPage (page out p)) (ltb n skip) l (le-ltb n skip (omega arith)) (lt-leb (length l) (length out - p .at) (omega arith))) in true-false (sym z))
+              absurd (let z : false ≡ true = ap (λ (x : Placed). x .full) (e ∙ put-stuck out at (ltb n skip) l (le-ltb n skip (omega arith)) (lt-leb (length l) (length out - at) (omega arith))) in true-false (sym z))
           by (no h) (yes d) =
-              let a : readPage (page out₁ q) ≡ ink (readPage (page out p)) l = ap (λ (x : Placed). x .on) (e ∙ put-inked (readPage (page out p)) (ltb n skip) l (le-ltb n skip (omega arith)) (le-leb (length l) (length out - p .at) d)) in
-              let b : readPage (page out₁ q) ≡ ink (readPage (page out₀ (started (length out₀)))) (g .bs ++ l) = a ∙ ap (λ (y : PageRead). ink y l) (g .page-is) ∙ ink-append (g .bs) (readPage (page out₀ (started (length out₀)))) l in
+              let w : placed out₁ q false ≡ placed (inked out at l) (at + length l) false = e ∙ put-inked out at (ltb n skip) l (le-ltb n skip (omega arith)) (le-leb (length l) (length out - at) d) in
+              let a : out₁ ≡ inked out at l = ap (λ (y : Placed). y .buf) w in
+              let c : q ≡ at + length l = ap (λ (y : Placed). y .at) w in
               let r = room-is in
               let k = length-append (g .bs) l in
-              let x = does-fit (length out₀ - length (g .bs)) l rest (skip - n) (omega arith) (rw (← r) (le-leb (length l) (length out - p .at) d)) in
+              let x = does-fit (length out₀ - length (g .bs)) l rest (skip - n) (omega arith) (rw (← r) (le-leb (length l) (length out - at) d)) in
               let y = ap (ahead (g .bs) (n - skip)) (sym x) ∙ g .is in
               let z = sym (two-ahead (g .bs) l (n - skip) (fit ((length out₀ - length (g .bs)) - length l) rest)) ∙ y in
               let v : (n - skip) + 1 ≡ (n + 1) - skip = omega arith in
               let u : (length out₀ - length (g .bs)) - length l ≡ length out₀ - length (g .bs ++ l) = rw k (omega arith) in
               let o : skip - (n + 1) ≡ 0 = omega arith in
-              record { bs = g .bs ++ l; page-is = b; room = rw k (omega (arith, g .room)); is = rw o (rw (v, u) at z) }
+              record { bs = g .bs ++ l; so = rw (a, c) (inked-on l (g .so) (g .room)); room = rw k (omega (arith, g .room)); is = rw o (rw (v, u) at z) }
 
 -- What each command does, and what holds behind it.
 module _ (c : Command) where
@@ -227,7 +266,7 @@ module _ (c : Command) where
     unfolding stepOf
     step-function e = rw e refl
 
-    pub step-faulty : c ≡ Faulty n → step.Last ≡ stepOf c
+    pub step-faulty : c ≡ Faulty n → step.Last n ≡ stepOf c
     unfolding stepOf
     step-faulty e = rw e refl
 
@@ -269,7 +308,7 @@ module _ (s : State) (c : Command) where
 abbrev counts : Step → ℕ
 counts step.Over = 1
 counts step.Setting = 0
-counts step.Last = 1
+counts (step.Last b) = 1
 counts step.Line = 1
 
 after-lines : (s : State) (c : Command) → afterOf s c .lines ≡ s .lines + counts (stepOf c)
@@ -298,7 +337,7 @@ after-at s (Faulty n) = omega arith
 abbrev runs : Step → ℕ
 runs step.Over = 0
 runs step.Setting = 1
-runs step.Last = 1
+runs (step.Last b) = 1
 runs step.Line = 1
 
 -- a command that does something starts inside the sheet
@@ -314,48 +353,79 @@ awake sheet at h = by (decLe (at + 1) (length sheet))
         let z : 0 ≡ runs (stepOf (commandAt sheet at)) = ap (λ c. runs (stepOf c)) e in
         omega arith)
 
+-- which of its kinds a step is
+abbrev kind : Step → ℕ
+kind step.Over = 0
+kind step.Setting = 1
+kind (step.Last b) = 2
+kind step.Line = 3
+
+abbrev lastByte : Step → ℕ
+lastByte step.Over = 0
+lastByte step.Setting = 0
+lastByte (step.Last b) = b
+lastByte step.Line = 0
+
+-- the line of the step that ends the run
+last-line : (k : Calls) (sheet : List ℕ) (s : State) (c : Command) (b : ℕ) → stepOf c ≡ step.Last b → refusedLine (s .lines + 1) (UnknownCommand b) ≡ lineOf k sheet s c
+unfolding stepOf lineOf
+last-line k sheet s End b e = absurd (let z : 0 ≡ 2 = ap kind e in omega arith)
+last-line k sheet s (Flags n) b e = absurd (let z : 1 ≡ 2 = ap kind e in omega arith)
+last-line k sheet s (PointerSize n) b e = absurd (let z : 1 ≡ 2 = ap kind e in omega arith)
+last-line k sheet s (TypeText n) b e = absurd (let z : 3 ≡ 2 = ap kind e in omega arith)
+last-line k sheet s (TypeSize n) b e = absurd (let z : 3 ≡ 2 = ap kind e in omega arith)
+last-line k sheet s (IdText n) b e = absurd (let z : 3 ≡ 2 = ap kind e in omega arith)
+last-line k sheet s (FunctionText n) b e = absurd (let z : 3 ≡ 2 = ap kind e in omega arith)
+last-line k sheet s (Faulty n) b e = let z : n ≡ b = ap lastByte e in rw z refl
+
 -- The run of a sheet so far: the lines to come are those from its state on.
-pub record Going (types ids sheet out₀ : List ℕ) (skip : ℕ) (out : List ℕ) (p : Pen) (s : State) : Type 0 where
+pub record Going (k : Calls) (sheet out₀ : List ℕ) (skip : ℕ) (out : List ℕ) (at : ℕ) (s : State) : Type 0 where
   pub left : ℕ
-  pub pending : Pending out₀ skip (sheetLines types ids sheet) out p (s .lines) (linesFrom types ids sheet left s)
+  pub pending : Pending out₀ skip (linesBy k sheet) out at (s .lines) (linesFrom k sheet left s)
   pub enough : length sheet ≤ left + s .at
   pub low : s .lines ≤ s .at
   pub short : length sheet < 9223372036854775808
 
-same-put : (g : PageRead) (x : Bool) (l : List ℕ) → length (putOf g x l .on .buf) ≡ length (g .buf)
+same-put : (buf : List ℕ) (at : ℕ) (x : Bool) (l : List ℕ) → at ≤ length buf → length (putOf buf at x l .buf) ≡ length buf
 unfolding putOf
-same-put g x l = by x (leb (length l) (length (g .buf) - g .pen .at))
+same-put buf at x l h = by x (decLe (length l) (length buf - at))
   where
-    by : (x y : Bool) → length (pick x (placedOn g false) (pick y (placedOn (ink g l) false) (placedOn g true)) .on .buf) ≡ length (g .buf)
-    by true y = refl
-    by false true = ink-length l g
-    by false false = refl
+    by : (x : Bool) → Dec (length l ≤ length buf - at)
+        → length (pick x (placed buf at false) (pick (leb (length l) (length buf - at)) (placed (inked buf at l) (at + length l) false) (placed buf at true)) .buf) ≡ length buf
+    by true d = refl
+    by false (yes d) =
+        rw (le-leb (length l) (length buf - at) d)
+        (let i = length-append (take at buf) (l ++ drop (at + length l) buf) in
+        let j = length-append l (drop (at + length l) buf) in
+        let m = length-take-le at buf h in
+        let n = length-drop (at + length l) buf in
+        omega arith)
+    by false (no d) = rw (lt-leb (length l) (length buf - at) (omega arith)) refl
 
-pending-length : {out₀ out : List ℕ} {skip n : ℕ} {all rest : List (List ℕ)} {p : Pen} → Pending out₀ skip all out p n rest → length out ≡ length out₀
+pending-length : {out₀ out : List ℕ} {skip n : ℕ} {all rest : List (List ℕ)} {at : ℕ} → Pending out₀ skip all out at n rest → length out ≡ length out₀
 pending-length {out₀} g =
-    let w = printed-so _ (g .page-is) (g .room) in
     let m = length-drop (length (g .bs)) out₀ in
-    rw (w .buffer-is, length-append (g .bs) (drop (length (g .bs)) out₀), m) (omega (arith, g .room))
+    rw (g .so .buffer-is, length-append (g .bs) (drop (length (g .bs)) out₀), m) (omega (arith, g .room))
 
-module _ (types ids sheet out₀ : List ℕ) (skip : ℕ) where
-  pub going-length : {out : List ℕ} {p : Pen} {s : State} → Going types ids sheet out₀ skip out p s → length out ≡ length out₀
+module _ (k : Calls) (sheet out₀ : List ℕ) (skip : ℕ) where
+  pub going-length : {out : List ℕ} {at : ℕ} {s : State} → Going k sheet out₀ skip out at s → length out ≡ length out₀
   going-length g = pending-length (g .pending)
 
-  pub put-length : {out out₁ : List ℕ} {p : Pen} (q : Pen) {s : State} {b : Bool} (x : Bool) (l : List ℕ) → Going types ids sheet out₀ skip out p s
-      → placedOn (readPage (page out₁ q)) b ≡ putOf (readPage (page out p)) x l → length out₁ ≡ length out₀
-  put-length {out} {out₁} {p} q x l g e = ap (λ (y : Placed). length (y .on .buf)) e ∙ same-put (readPage (page out p)) x l ∙ going-length g
+  pub going-at : {out : List ℕ} {at : ℕ} {s : State} → Going k sheet out₀ skip out at s → at ≤ length out
+  going-at g = pending-at out₀ skip (linesBy k sheet) (g .pending)
 
-  pub going-at : {out : List ℕ} {p : Pen} {s : State} → Going types ids sheet out₀ skip out p s → p .at ≤ length out
-  going-at g = pending-at out₀ skip (sheetLines types ids sheet) (g .pending)
+  pub put-length : {out out₁ : List ℕ} {at q : ℕ} {s : State} {b : Bool} (x : Bool) (l : List ℕ) → Going k sheet out₀ skip out at s
+      → placed out₁ q b ≡ putOf out at x l → length out₁ ≡ length out₀
+  put-length {out} {out₁} {at} x l g e = ap (λ (y : Placed). length (y .buf)) e ∙ same-put out at x l (going-at g) ∙ going-length g
 
-  pub going-first : (p : Pen) → p ≡ started (length out₀) → length sheet < 9223372036854775808 → Going types ids sheet out₀ skip out₀ p begin
-  unfolding sheetLines
-  going-first p e h = record { short = h; left = length sheet; pending = pending-first out₀ skip _ p e; enough = omega arith; low = omega arith }
+  pub going-first : length sheet < 9223372036854775808 → Going k sheet out₀ skip out₀ 0 begin
+  unfolding linesBy
+  going-first h = record { short = h; left = length sheet; pending = pending-first out₀ skip _; enough = omega arith; low = omega arith }
 
-  module _ {out : List ℕ} {p : Pen} {s : State} {c : Command} {r : Step} (g : Going types ids sheet out₀ skip out p s) (e : c ≡ commandAt sheet (s .at)) (f : r ≡ stepOf c) where
-    one : (k : ℕ) → linesFrom types ids sheet (suc k) s ≡ byStep types ids sheet r (lineOf types ids sheet s c) (linesFrom types ids sheet k (afterOf s c))
+  module _ {out : List ℕ} {at : ℕ} {s : State} {c : Command} {r : Step} (g : Going k sheet out₀ skip out at s) (e : c ≡ commandAt sheet (s .at)) (f : r ≡ stepOf c) where
+    one : (n : ℕ) → linesFrom k sheet (suc n) s ≡ byStep r (lineOf k sheet s c) (linesFrom k sheet n (afterOf s c))
     unfolding linesFrom
-    one k = rw (f, e) refl
+    one n = rw (f, e) refl
 
     inside : 1 ≤ runs r → s .at < length sheet
     inside h = awake sheet (s .at) (let z : runs r ≡ runs (stepOf (commandAt sheet (s .at))) = ap runs (f ∙ ap stepOf e) in omega arith)
@@ -364,19 +434,19 @@ module _ (types ids sheet out₀ : List ℕ) (skip : ℕ) where
     lefter : 1 ≤ runs r → g .left ≡ suc (g .left - 1)
     lefter h = let i = inside h in omega (arith, g .enough)
 
-    come : 1 ≤ runs r → Pending out₀ skip (sheetLines types ids sheet) out p (s .lines) (byStep types ids sheet r (lineOf types ids sheet s c) (linesFrom types ids sheet (g .left - 1) (afterOf s c)))
+    come : 1 ≤ runs r → Pending out₀ skip (linesBy k sheet) out at (s .lines) (byStep r (lineOf k sheet s c) (linesFrom k sheet (g .left - 1) (afterOf s c)))
     come h =
-        let k : linesFrom types ids sheet (g .left) s ≡ _ = ap (λ n. linesFrom types ids sheet n s) (lefter h) ∙ one (g .left - 1) in
-        rw k at (g .pending)
+        let m : linesFrom k sheet (g .left) s ≡ _ = ap (λ n. linesFrom k sheet n s) (lefter h) ∙ one (g .left - 1) in
+        rw m at (g .pending)
 
-    over : (k : ℕ) → r ≡ step.Over → linesFrom types ids sheet k s ≡ []
+    over : (n : ℕ) → r ≡ step.Over → linesFrom k sheet n s ≡ []
     unfolding linesFrom
     over zero h = refl
-    over (suc k) h = one k ∙ ap (λ x. byStep types ids sheet x (lineOf types ids sheet s c) (linesFrom types ids sheet k (afterOf s c))) h
+    over (suc n) h = one n ∙ ap (λ x. byStep x (lineOf k sheet s c) (linesFrom k sheet n (afterOf s c))) h
 
-    pub going-over : {d : Printed} → r ≡ step.Over → (d .bytes ≡ p .at) × ((d .lines ≡ s .lines - skip) × (d .more ≡ false))
-        → shown out d ≡ laidOut out₀ (fit (length out₀) (drop skip (sheetLines types ids sheet)))
-    going-over h x = all-shown out₀ skip (sheetLines types ids sheet) (rw (over (g .left) h) at (g .pending)) x
+    pub going-over : {d : Printed} → r ≡ step.Over → (d .bytes ≡ at) × ((d .lines ≡ s .lines - skip) × (d .more ≡ false))
+        → shown out d ≡ laidOut out₀ (fit (length out₀) (drop skip (linesBy k sheet)))
+    going-over h x = all-shown out₀ skip (linesBy k sheet) (rw (over (g .left) h) at (g .pending)) x
 
     lines-after : afterOf s c .lines ≡ s .lines + counts r
     lines-after = after-lines s c ∙ ap (λ x. s .lines + counts x) (sym f)
@@ -384,7 +454,7 @@ module _ (types ids sheet out₀ : List ℕ) (skip : ℕ) where
     pub inside-set : r ≡ step.Setting → s .at < length sheet
     inside-set h = inside (rw h (omega arith))
 
-    pub inside-last : r ≡ step.Last → s .at < length sheet
+    pub inside-last : {b : ℕ} → r ≡ step.Last b → s .at < length sheet
     inside-last h = inside (rw h (omega arith))
 
     pub inside-line : r ≡ step.Line → s .at < length sheet
@@ -392,7 +462,7 @@ module _ (types ids sheet out₀ : List ℕ) (skip : ℕ) where
 
     -- the next place is further on
     further : {s₁ : State} → 1 ≤ runs r → s₁ ≡ afterOf s c → length sheet - s₁ .at < length sheet - s .at
-    further h i = rw i (let k = after-at s c in let l = inside h in omega arith)
+    further h i = rw i (let m = after-at s c in let l = inside h in omega arith)
 
     pub less-set : {s₁ : State} → r ≡ step.Setting → s₁ ≡ afterOf s c → length sheet - s₁ .at < length sheet - s .at
     less-set h i = further (rw h (omega arith)) i
@@ -401,7 +471,7 @@ module _ (types ids sheet out₀ : List ℕ) (skip : ℕ) where
     less-line h i = further (rw h (omega arith)) i
 
     -- a setting
-    set-goes : r ≡ step.Setting → Going types ids sheet out₀ skip out p (afterOf s c)
+    set-goes : r ≡ step.Setting → Going k sheet out₀ skip out at (afterOf s c)
     set-goes h =
         let i : 1 ≤ runs r = rw h (omega arith) in
         let n : s .lines ≡ afterOf s c .lines = sym (lines-after ∙ ap (λ x. s .lines + counts x) h ∙ add-zero (s .lines)) in
@@ -409,18 +479,18 @@ module _ (types ids sheet out₀ : List ℕ) (skip : ℕ) where
         let l = lefter i in
         record {
           left = g .left - 1;
-          pending = pending-as out₀ skip (sheetLines types ids sheet) n (rw h at (come i));
+          pending = pending-as out₀ skip (linesBy k sheet) n (rw h at (come i));
           enough = omega (arith, g .enough);
           low = omega (arith, g .low);
           short = g .short;
         }
 
-    pub going-set : {s₁ : State} → s₁ ≡ afterOf s c → r ≡ step.Setting → Going types ids sheet out₀ skip out p s₁
+    pub going-set : {s₁ : State} → s₁ ≡ afterOf s c → r ≡ step.Setting → Going k sheet out₀ skip out at s₁
     going-set i h = rw i (set-goes h)
 
     -- a line that was passed over or stands on the page
-    line-goes : {out₁ : List ℕ} {q : Pen} → r ≡ step.Line → placedOn (readPage (page out₁ q)) false ≡ putOf (readPage (page out p)) (ltb (s .lines) skip) (lineOf types ids sheet s c)
-        → Going types ids sheet out₀ skip out₁ q (afterOf s c)
+    line-goes : {out₁ : List ℕ} {q : ℕ} → r ≡ step.Line → placed out₁ q false ≡ putOf out at (ltb (s .lines) skip) (lineOf k sheet s c)
+        → Going k sheet out₀ skip out₁ q (afterOf s c)
     line-goes h x =
         let i : 1 ≤ runs r = rw h (omega arith) in
         let n : s .lines + 1 ≡ afterOf s c .lines = sym (lines-after ∙ ap (λ x. s .lines + counts x) h) in
@@ -428,52 +498,108 @@ module _ (types ids sheet out₀ : List ℕ) (skip : ℕ) where
         let l = lefter i in
         record {
           left = g .left - 1;
-          pending = pending-as out₀ skip (sheetLines types ids sheet) n (line-placed out₀ skip (sheetLines types ids sheet) (rw h at (come i)) x);
+          pending = pending-as out₀ skip (linesBy k sheet) n (line-placed out₀ skip (linesBy k sheet) (rw h at (come i)) x);
           enough = omega (arith, g .enough);
           low = omega (arith, g .low);
           short = g .short;
         }
 
-    pub going-line : {s₁ : State} {out₁ : List ℕ} {q : Pen} → s₁ ≡ afterOf s c → r ≡ step.Line
-        → placedOn (readPage (page out₁ q)) false ≡ putOf (readPage (page out p)) (ltb (s .lines) skip) (lineOf types ids sheet s c) → Going types ids sheet out₀ skip out₁ q s₁
+    pub going-line : {s₁ : State} {out₁ : List ℕ} {q : ℕ} → s₁ ≡ afterOf s c → r ≡ step.Line
+        → placed out₁ q false ≡ putOf out at (ltb (s .lines) skip) (lineOf k sheet s c) → Going k sheet out₀ skip out₁ q s₁
     going-line i h x = rw i (line-goes h x)
 
-    -- the line of a faulty command, which is the last
-    pub going-last : {out₁ : List ℕ} (q : Pen) {d : Printed} → r ≡ step.Last → placedOn (readPage (page out₁ q)) false ≡ putOf (readPage (page out p)) (ltb (s .lines) skip) (lineOf types ids sheet s c)
-        → (d .bytes ≡ q .at) × ((d .lines ≡ (s .lines + 1) - skip) × (d .more ≡ false)) → shown out₁ d ≡ laidOut out₀ (fit (length out₀) (drop skip (sheetLines types ids sheet)))
-    going-last q h x y =
-        let i : 1 ≤ runs r = rw h (omega arith) in
-        all-shown out₀ skip (sheetLines types ids sheet) (line-placed out₀ skip (sheetLines types ids sheet) (rw h at (come i)) x) y
-
     -- a line without room
-    pub going-stuck : {out₁ : List ℕ} (q : Pen) {d : Printed} → (r ≡ step.Last) ⊎ (r ≡ step.Line) → placedOn (readPage (page out₁ q)) true ≡ putOf (readPage (page out p)) (ltb (s .lines) skip) (lineOf types ids sheet s c)
-        → (d .bytes ≡ q .at) × ((d .lines ≡ s .lines - skip) × (d .more ≡ true)) → shown out₁ d ≡ laidOut out₀ (fit (length out₀) (drop skip (sheetLines types ids sheet)))
-    going-stuck q (inl h) x y = line-stuck out₀ skip (sheetLines types ids sheet) (rw h at (come (rw h (omega arith)))) q x y
-    going-stuck q (inr h) x y = line-stuck out₀ skip (sheetLines types ids sheet) (rw h at (come (rw h (omega arith)))) q x y
+    pub line-full : {out₁ : List ℕ} {q : ℕ} {d : Printed} → r ≡ step.Line → placed out₁ q true ≡ putOf out at (ltb (s .lines) skip) (lineOf k sheet s c)
+        → (d .bytes ≡ q) × ((d .lines ≡ s .lines - skip) × (d .more ≡ true)) → shown out₁ d ≡ laidOut out₀ (fit (length out₀) (drop skip (linesBy k sheet)))
+    line-full h x y = line-stuck out₀ skip (linesBy k sheet) (rw h at (come (rw h (omega arith)))) x y
 
--- The line of a size, and of a text, by the answer.
-module _ {buf out : List ℕ} {k : ℕ} (number : ℕ) where
-  pub size-line : (a : SizeAnswer) {n : ℕ} → a ≡ sized.Bytes n → Whole buf (textLine number (decimal n)) out k → Whole buf (sizeLine number (ofSizeAnswer a)) out k
-  unfolding sizeLine ofSizeAnswer textLine toldLine
-  size-line a e w = rw e w
+    -- the line of a faulty command, which is the last
+    module _ {b : ℕ} (h : r ≡ step.Last b) where
+      as-put : {x : Placed} → x ≡ putOf out at (ltb (s .lines) skip) (refusedLine (s .lines + 1) (UnknownCommand b)) → x ≡ putOf out at (ltb (s .lines) skip) (lineOf k sheet s c)
+      as-put x = x ∙ ap (putOf out at (ltb (s .lines) skip)) (last-line k sheet s c b (sym f ∙ h))
 
-  pub size-refused : (a : SizeAnswer) {f : Refusal} → a ≡ sized.Refused f → Whole buf (refusedLine number f) out k → Whole buf (sizeLine number (ofSizeAnswer a)) out k
-  unfolding sizeLine ofSizeAnswer
-  size-refused a {f} e w = rw (e, told-refused number f (decimal 0)) w
+      last-come : Pending out₀ skip (linesBy k sheet) out at (s .lines) (lineOf k sheet s c ∷ [])
+      last-come = rw h at (come (rw h (omega arith)))
 
-  module _ (text : List ℕ) (a : Answer) where
-    pub text-said : {n : ℕ} {bs : List ℕ} → a ≡ answer.Text n → bs ≡ nameAt text (record { start = 0; len = n }) → Whole buf (textLine number bs) out k
-        → Whole buf (answerLine number text (ofAnswer a)) out k
-    unfolding answerLine ofAnswer nameAt textLine toldLine
-    text-said e f w = rw e (rw f at w)
+      pub going-last : {out₁ : List ℕ} {q : ℕ} {d : Printed} → placed out₁ q false ≡ putOf out at (ltb (s .lines) skip) (refusedLine (s .lines + 1) (UnknownCommand b))
+          → (d .bytes ≡ q) × ((d .lines ≡ (s .lines + 1) - skip) × (d .more ≡ false)) → shown out₁ d ≡ laidOut out₀ (fit (length out₀) (drop skip (linesBy k sheet)))
+      going-last x y = all-shown out₀ skip (linesBy k sheet) (line-placed out₀ skip (linesBy k sheet) last-come (as-put x)) y
 
-    pub refusal-said : {f : Refusal} → a ≡ answer.Refused f → Whole buf (refusedLine number f) out k → Whole buf (answerLine number text (ofAnswer a)) out k
-    unfolding answerLine ofAnswer refusedLine
-    refusal-said e w = rw e w
+      pub last-full : {out₁ : List ℕ} {q : ℕ} {d : Printed} → placed out₁ q true ≡ putOf out at (ltb (s .lines) skip) (refusedLine (s .lines + 1) (UnknownCommand b))
+          → (d .bytes ≡ q) × ((d .lines ≡ s .lines - skip) × (d .more ≡ true)) → shown out₁ d ≡ laidOut out₀ (fit (length out₀) (drop skip (linesBy k sheet)))
+      last-full x y = line-stuck out₀ skip (linesBy k sheet) last-come (as-put x) y
 
-pub taken-length : (text : List ℕ) (n : Name) {bs : List ℕ} → bs ≡ nameAt text n → length bs ≤ length text
+-- The fields before a text or a size, and the line that they make with it.
+decimal-zero : decimal 0 ≡ bytes "0"
+unfolding decimal numeral digit
+decimal-zero = refl
+
+hex-zero : hex 0 ≡ bytes "0"
+unfolding hex numeral digit
+hex-zero = refl
+
+text-line : (n : ℕ) (bs : List ℕ) → ((decimal n ++ bytes " 0 0x0 ") ++ bs) ++ bytes "\n" ≡ textLine n bs
+unfolding textLine toldLine head
+text-line n bs = rw (decimal-zero, hex-zero, append-assoc, append-assoc) (rw append-assoc refl)
+
+pub head-placed : (line digits fields : List ℕ) (r : ℕ) {w : List ℕ} → length line ≡ 4124 → length digits ≡ 20 → length fields ≡ 7 → r ≤ 20 → drop r digits ≡ w
+    → drop r (take 20 (digits ++ drop 20 line) ++ (fields ++ drop 7 (drop 20 (digits ++ drop 20 line)))) ≡ (w ++ fields) ++ drop 27 line
+head-placed line digits fields r {w} h d f i e =
+    let t : take 20 (digits ++ drop 20 line) ≡ digits = take-at digits (drop 20 line) 20 d in
+    let u : drop 20 (digits ++ drop 20 line) ≡ drop 20 line = drop-at digits (drop 20 line) 20 d in
+    let v : drop 7 (drop 20 line) ≡ drop 27 line = drop-drop 7 20 line in
+    rw (t, u, v) (drop-append-le r digits (fields ++ drop 27 line) (omega arith) ∙ ap (λ (x : List ℕ). x ++ (fields ++ drop 27 line)) e ∙ sym (append-assoc w fields (drop 27 line)))
+
+pub text-placed : (line headed : List ℕ) (number at n : ℕ) → length line ≡ 4124 → length headed ≡ 4124 → at ≤ 20 → n ≤ 4096
+    → drop at headed ≡ (decimal number ++ bytes " 0 0x0 ") ++ drop 27 line
+    → nameAt (set headed (27 + n) 10) (record { start = at; len = ((27 + n) + 1) - at }) ≡ textLine number (take n (drop 27 line))
 unfolding nameAt
-taken-length text n e = rw e (let h = length-take (n .len) (drop (n .start) text) in let k = length-drop (n .start) text in omega arith)
+text-placed line headed number at n h i j m e =
+    let H = decimal number ++ bytes " 0 0x0 " in
+    let Y = drop 27 line in
+    let a : length headed - at ≡ length H + (length line - 27) = sym (length-drop at headed) ∙ ap length e ∙ length-append H Y ∙ ap (λ x. length H + x) (length-drop 27 line) in
+    let b : 27 + n ≡ at + (length H + n) = omega arith in
+    let c : ((27 + n) + 1) - at ≡ suc (length H + n) = omega arith in
+    let x : drop at (set headed (27 + n) 10) ≡ set (H ++ Y) (length H + n) 10 =
+    ap (λ i. drop at (set headed i 10)) b ∙ drop-set-add at headed (length H + n) 10 ∙ ap (λ (l : List ℕ). set l (length H + n) 10) e in
+    let l : length H + n < length (H ++ Y) = let p = length-append H Y in let q = length-drop 27 line in omega arith in
+    let y : take (suc (length H + n)) (set (H ++ Y) (length H + n) 10) ≡ take (length H + n) (H ++ Y) ++ (10 ∷ []) = take-suc-set (H ++ Y) (length H + n) 10 l in
+    let z : take (length H + n) (H ++ Y) ≡ H ++ take n Y = take-append-add H Y n in
+    ap (λ k. take k (drop at (set headed (27 + n) 10))) c ∙ ap (take (suc (length H + n))) x ∙ y ∙ ap (λ (k : List ℕ). k ++ (10 ∷ [])) z ∙ text-line number (take n Y)
+
+-- The line of a text, and of a size, by the answer.
+module _ (number : ℕ) (line : List ℕ) {l : List ℕ} where
+  pub text-said : (a : Answer) {n : ℕ} → a ≡ answer.Text n → l ≡ textLine number (take n (drop 27 line)) → l ≡ answerLine number (drop 27 line) (ofAnswer a)
+  unfolding answerLine ofAnswer textLine toldLine
+  text-said a e w = rw e w
+
+  pub refusal-said : (a : Answer) {f : Refusal} → a ≡ answer.Refused f → l ≡ refusedLine number f → l ≡ answerLine number (drop 27 line) (ofAnswer a)
+  unfolding answerLine ofAnswer refusedLine
+  refusal-said a e w = rw e w
+
+size-told : (number : ℕ) (a : SizeAnswer) {n : ℕ} → a ≡ sized.Bytes n → textLine number (decimal n) ≡ sizeLine number (ofSizeAnswer a)
+unfolding sizeLine ofSizeAnswer textLine toldLine
+size-told number a e = rw e refl
+
+pub size-refused : (number : ℕ) {l : List ℕ} (a : SizeAnswer) {f : Refusal} → a ≡ sized.Refused f → l ≡ refusedLine number f → l ≡ sizeLine number (ofSizeAnswer a)
+unfolding sizeLine ofSizeAnswer
+size-refused number a {f} e w = rw (e, told-refused number f (decimal 0)) w
+
+-- the digits of a size stand behind place 27
+pub size-said : (number : ℕ) (line out rest : List ℕ) (a : SizeAnswer) {l buf : List ℕ} {n at : ℕ} → a ≡ sized.Bytes n → 27 ≤ length line → Whole buf (decimal n) out at
+    → l ≡ textLine number (take at (drop 27 (take 27 line ++ (out ++ rest)))) → l ≡ sizeLine number (ofSizeAnswer a)
+size-said number line out rest a {buf = buf} {n = n} {at = at} e h w f =
+    let d : drop 27 (take 27 line ++ (out ++ rest)) ≡ out ++ rest = drop-at (take 27 line) (out ++ rest) 27 (length-take-le 27 line h) in
+    let i : at ≤ length out = rw (w .length-is, w .buffer-is, length-append (decimal n) (drop (length (decimal n)) buf)) (omega arith) in
+    f ∙ ap (textLine number) (ap (take at) d ∙ take-append-le at out rest i ∙ whole-taken w) ∙ size-told number a e
+
+pub answer-low : (a : Answer) {n m : ℕ} → a ≡ answer.Text n → ofAnswer a .value ≤ m → n ≤ m
+unfolding ofAnswer
+answer-low a e h = rw e at h
+
+pub digits-low : (n : ℕ) → length (decimal n) ≤ 20
+unfolding decimal
+digits-low n = numeral-length 10 20 n
 
 -- A line has room in a buffer of so many bytes.
 pub refused-room : (n : ℕ) (f : Refusal) {m : ℕ} → 53 ≤ m → length (refusedLine n f) ≤ m
@@ -503,89 +629,101 @@ module _ (sheet : List ℕ) (at : ℕ) {e : ℕ} where
   pub name-after : e ≡ zeroFrom 16 sheet at → at ≤ e
   name-after h = rw h (end-after 16 sheet at)
 
--- A line by another name.
-pub whole-as : {buf l m out : List ℕ} {n : ℕ} → l ≡ m → Whole buf l out n → Whole buf m out n
-whole-as e w = rw e at w
+-- A buffer of 4,096 bytes in the line.
+module _ (line : List ℕ) (h : length line ≡ 4124) where
+  pub part-length : length (take 4096 (drop 27 line)) ≡ 4096
+  part-length = length-take-le 4096 (drop 27 line) (omega (arith, length-drop 27 line))
 
--- no line at all
-pub whole-none : {buf m : List ℕ} → [] ≡ m → Whole buf m buf 0
-whole-none e = whole-as e (record { length-is = refl; buffer-is = refl })
+  module _ (out : List ℕ) where
+    mid-length : length out ≡ 4096 → length (take 27 line ++ (out ++ drop 4096 (drop 27 line))) ≡ 4124
+    mid-length e =
+        let i = length-append (take 27 line) (out ++ drop 4096 (drop 27 line)) in
+        let j = length-append out (drop 4096 (drop 27 line)) in
+        let m = length-take-le 27 line (omega arith) in
+        let n = length-drop 27 line in
+        let o = length-drop 4096 (drop 27 line) in
+        omega arith
 
--- What the calls answer over what is kept of the checks, in a text buffer of 4,096 bytes.
-module _ (types : List ℕ) {v : Near} (e : KeptOf Types types v) where
-  pub function-outcome : (sheet : List ℕ) (at flags size i : ℕ) {name : List ℕ} {room : ℕ} → name ≡ givenName sheet at → room ≡ 4096
-      → functionOver types v flags size name i room ≡ functionOutcome flags size types (givenName sheet at) i 4096
-  function-outcome sheet at flags size i f g = rw (f, g) (function-over types v e (givenName sheet at) flags size i 4096)
+    pub answer-fits : (o : call.Outcome) (a : Answer) → given out a ≡ laid (take 4096 (drop 27 line)) o → length out ≡ length (take 4096 (drop 27 line))
+        → (length (take 27 line ++ (out ++ drop 4096 (drop 27 line))) ≡ 4124) × (ofAnswer a .value ≤ 4096)
+    answer-fits o a e f = let k = answer-room 0 (take 4096 (drop 27 line)) out o a e f in let m = part-length in (mid-length (f ∙ m), omega arith)
 
-  pub type-outcome : (flags size i : ℕ) {room : ℕ} → room ≡ 4096 → typeOver types v flags size i room ≡ typeOutcome flags size types i 4096
-  type-outcome flags size i g = rw g (type-over types v e flags size i 4096)
+    module _ (n : ℕ) {p q : Pen} (e : p ≡ started 4096) (w : Wrote (page (take 4096 (drop 27 line)) p) (writing (decimal n)) (page out q)) where
+      pub size-whole : Whole (take 4096 (drop 27 line)) (decimal n) out (q .at)
+      size-whole = line-whole (e ∙ ap started (sym part-length)) w (let k = digits-low n in let m = part-length in omega arith)
 
-  pub id-outcome : (ids : List ℕ) → KeptOf Ids ids v → (flags size i : ℕ) {room : ℕ} → room ≡ 4096 → idOver types ids v flags size i room ≡ idOutcome flags size types ids i 4096
-  id-outcome ids f flags size i g = rw g (id-over types v e ids f flags size i 4096)
+      pub size-fits : length out ≡ length (take 4096 (drop 27 line)) → (length (take 27 line ++ (out ++ drop 4096 (drop 27 line))) ≡ 4124) × (q .at ≤ 4096)
+      size-fits f = let k = digits-low n in let l = size-whole .length-is in (mid-length (f ∙ part-length), omega arith)
 
-  pub size-outcome : (size i : ℕ) (a : SizeAnswer) → ofSizeAnswer a ≡ call.ofSize (sizeOver types v size i) → ofSizeAnswer a ≡ call.ofSize (sizeOutcome size types i)
-  size-outcome size i a f = f ∙ ap call.ofSize (size-over types v e size i)
+-- What the calls answer in it.
+module _ (types : List ℕ) (v : Near) (flags size : ℕ) where
+  pub function-room : (name name′ : List ℕ) (i : ℕ) {room : ℕ} → name ≡ name′ → room ≡ 4096 → functionOver types v flags size name i room ≡ functionOver types v flags size name′ i 4096
+  function-room name name′ i e f = rw (e, f) refl
+
+  pub type-room : (i : ℕ) {room : ℕ} → room ≡ 4096 → typeOver types v flags size i room ≡ typeOver types v flags size i 4096
+  type-room i e = rw e refl
+
+  pub id-room : (ids : List ℕ) (i : ℕ) {room : ℕ} → room ≡ 4096 → idOver types ids v flags size i room ≡ idOver types ids v flags size i 4096
+  id-room ids i e = rw e refl
+
+-- No line at all.
+pub named-none : (line : List ℕ) (n : Name) {l : List ℕ} → n .len ≡ 0 → [] ≡ l → nameAt line n ≡ l
+unfolding nameAt
+named-none line n e f = rw e f
 
 -- The line of each kind of command.
-module _ (types ids sheet : List ℕ) (s : State) (c : Command) where
-  pub line-end : c ≡ End → [] ≡ lineOf types ids sheet s c
+module _ (k : Calls) (sheet : List ℕ) (s : State) (c : Command) where
+  pub line-end : c ≡ End → [] ≡ lineOf k sheet s c
   unfolding lineOf
   line-end e = rw e refl
 
   module _ (n : ℕ) where
-    pub line-flags : c ≡ Flags n → [] ≡ lineOf types ids sheet s c
+    pub line-flags : c ≡ Flags n → [] ≡ lineOf k sheet s c
     unfolding lineOf
     line-flags e = rw e refl
 
-    pub line-pointer : c ≡ PointerSize n → [] ≡ lineOf types ids sheet s c
+    pub line-pointer : c ≡ PointerSize n → [] ≡ lineOf k sheet s c
     unfolding lineOf
     line-pointer e = rw e refl
 
-    pub line-type : c ≡ TypeText n → outcomeLine (s .lines + 1) (typeOutcome (s .flags) (s .size) types n 4096) ≡ lineOf types ids sheet s c
+    pub line-type : c ≡ TypeText n → outcomeLine (s .lines + 1) (k .typeText (s .flags) (s .size) n) ≡ lineOf k sheet s c
     unfolding lineOf
     line-type e = rw e refl
 
-    pub line-size : c ≡ TypeSize n → sizeLine (s .lines + 1) (call.ofSize (sizeOutcome (s .size) types n)) ≡ lineOf types ids sheet s c
+    pub line-size : c ≡ TypeSize n → sizeLine (s .lines + 1) (call.ofSize (k .typeSize (s .size) n)) ≡ lineOf k sheet s c
     unfolding lineOf
     line-size e = rw e refl
 
-    pub line-id : c ≡ IdText n → outcomeLine (s .lines + 1) (idOutcome (s .flags) (s .size) types ids n 4096) ≡ lineOf types ids sheet s c
+    pub line-id : c ≡ IdText n → outcomeLine (s .lines + 1) (k .id (s .flags) (s .size) n) ≡ lineOf k sheet s c
     unfolding lineOf
     line-id e = rw e refl
 
-    pub line-function : c ≡ FunctionText n → functionLine types sheet s n ≡ lineOf types ids sheet s c
+    pub line-function : c ≡ FunctionText n → functionLine k sheet s n ≡ lineOf k sheet s c
     unfolding lineOf
     line-function e = rw e refl
 
-    pub line-faulty : c ≡ Faulty n → refusedLine (s .lines + 1) (UnknownCommand n) ≡ lineOf types ids sheet s c
+    pub line-faulty : c ≡ Faulty n → refusedLine (s .lines + 1) (UnknownCommand n) ≡ lineOf k sheet s c
     unfolding lineOf
     line-faulty e = rw e refl
 
-pub full-as : {g : PageRead} {b c : Bool} {x : Placed} → b ≡ c → placedOn g b ≡ x → placedOn g c ≡ x
+pub full-as : {buf : List ℕ} {at : ℕ} {b c : Bool} {x : Placed} → b ≡ c → placed buf at b ≡ x → placed buf at c ≡ x
 full-as e f = rw (← e) f
 
 -- A line on the page: passed over, without room, or written.
-pub passed : (g : PageRead) (l : List ℕ) (n skip : ℕ) → n < skip → placedOn g false ≡ putOf g (ltb n skip) l
-passed g l n skip h = sym (put-passed g (ltb n skip) l (lt-ltb n skip h))
+module _ (buf : List ℕ) (at : ℕ) where
+  pub passed : (l : List ℕ) (n skip : ℕ) → n < skip → placed buf at false ≡ putOf buf at (ltb n skip) l
+  passed l n skip h = sym (put-passed buf at (ltb n skip) l (lt-ltb n skip h))
 
-module _ {buf l line : List ℕ} {k : ℕ} (w : Whole buf l line k) where
-  pub whole-short : k ≤ length line
-  whole-short = rw (w .length-is, w .buffer-is, length-append l (drop (length l) buf)) (omega arith)
+  pub stuck : (l : List ℕ) → length buf - at < length l → placed buf at true ≡ putOf buf at false l
+  stuck l h = sym (put-stuck buf at false l refl (lt-leb (length l) (length buf - at) h))
 
-  taken-is : take k line ≡ l
-  taken-is = rw (w .length-is, w .buffer-is) (take-append-seam l (drop (length l) buf))
+  pub written : (l out : List ℕ) (k : ℕ) → length l ≤ length buf - at → k ≡ length l → out ≡ l → placed (take at buf ++ (out ++ drop k (drop at buf))) (at + length l) false ≡ putOf buf at false l
+  written l out k h e f =
+      let d : drop k (drop at buf) ≡ drop (at + length l) buf = drop-drop k at buf ∙ ap (λ n. drop (at + n) buf) e in
+      rw (d, f) (sym (put-inked buf at false l refl (le-leb (length l) (length buf - at) h)))
 
-  pub whole-count : k ≡ length (take k line)
-  whole-count = w .length-is ∙ sym (ap length taken-is)
-
-  pub stuck : (g : PageRead) (n skip : ℕ) → skip ≤ n → length (g .buf) - g .pen .at < k → placedOn g true ≡ putOf g (ltb n skip) l
-  stuck g n skip h i = let j = w .length-is in sym (put-stuck g (ltb n skip) l (le-ltb n skip h) (lt-leb (length l) (length (g .buf) - g .pen .at) (omega arith)))
-
-  pub placed : (g h : Page) (n skip : ℕ) → skip ≤ n → k ≤ length (g .buf) - g .pen .at → Wrote g (writing (take k line)) h → placedOn (readPage h) false ≡ putOf (readPage g) (ltb n skip) l
-  placed g h n skip i j v =
-      let b : readPage h ≡ ink (readPage g) l = v .is ∙ run-say (readPage g) (take k line) ∙ ap (ink (readPage g)) taken-is in
-      let m = w .length-is in
-      rw b (sym (put-inked (readPage g) (ltb n skip) l (le-ltb n skip i) (le-leb (length l) (length (g .buf) - g .pen .at) (omega arith))))
+  pub put-as : {l m : List ℕ} {n skip : ℕ} {x : Placed} → skip ≤ n → l ≡ m → x ≡ putOf buf at false l → x ≡ putOf buf at (ltb n skip) m
+  put-as {l} {m} {n} {skip} h e f = rw (le-ltb n skip h, ← e) f
 
 -- Nothing is lost.
 abbrev nextFit : List ℕ → Fit → Bool → Fit
@@ -659,34 +797,83 @@ unfolding sizeLine call.ofSize textLine toldLine
 size-line-length n (call.sizeBytes k) = size-room n k (omega arith)
 size-line-length n (call.unsized f) = unsized-length n f
 
-module _ (types ids sheet : List ℕ) where
-  line-length : (s : State) (c : Command) → length (lineOf types ids sheet s c) ≤ 4150
-  unfolding lineOf typeOutcome idOutcome functionOutcome
+-- Calls whose texts have 4,096 bytes at most.
+pub record Bounded (k : Calls) : Type 0 where
+  pub function : (n flags size : ℕ) (name : List ℕ) (i : ℕ) → length (outcomeLine n (k .function flags size name i)) ≤ 54 + 4096
+  pub id : (n flags size i : ℕ) → length (outcomeLine n (k .id flags size i)) ≤ 54 + 4096
+  pub typeText : (n flags size i : ℕ) → length (outcomeLine n (k .typeText flags size i)) ≤ 54 + 4096
+
+pub bounded-to : (types ids : List ℕ) → Bounded (callsTo types ids)
+unfolding typeOutcome idOutcome functionOutcome
+bounded-to types ids =
+    record {
+      function = λ n flags size name i. outcome-length n 4096 _;
+      id = λ n flags size i. outcome-length n 4096 _;
+      typeText = λ n flags size i. outcome-length n 4096 _;
+    }
+
+pub bounded-over : (types ids : List ℕ) (v : Near) → Bounded (callsOver types ids v)
+unfolding typeOver idOver functionOver
+bounded-over types ids v =
+    record {
+      function = λ n flags size name i. outcome-length n 4096 _;
+      id = λ n flags size i. outcome-length n 4096 _;
+      typeText = λ n flags size i. outcome-length n 4096 _;
+    }
+
+module _ (k : Calls) (h : Bounded k) (sheet : List ℕ) where
+  line-length : (s : State) (c : Command) → length (lineOf k sheet s c) ≤ 4150
+  unfolding lineOf
   line-length s End = omega arith
   line-length s (Flags n) = omega arith
   line-length s (PointerSize n) = omega arith
-  line-length s (TypeText i) = outcome-length (s .lines + 1) 4096 _
-  line-length s (TypeSize i) = size-line-length (s .lines + 1) (sizeOutcome (s .size) types i)
-  line-length s (IdText i) = outcome-length (s .lines + 1) 4096 _
-  line-length s (FunctionText i) = outcome-length (s .lines + 1) 4096 _
+  line-length s (TypeText i) = h .typeText (s .lines + 1) (s .flags) (s .size) i
+  line-length s (TypeSize i) = size-line-length (s .lines + 1) (k .typeSize (s .size) i)
+  line-length s (IdText i) = h .id (s .lines + 1) (s .flags) (s .size) i
+  line-length s (FunctionText i) = h .function (s .lines + 1) (s .flags) (s .size) (givenName sheet (s .at + 5)) i
   line-length s (Faulty b) = refused-room (s .lines + 1) (UnknownCommand b) (omega arith)
 
-  from-short : (k : ℕ) (s : State) → Short (linesFrom types ids sheet k s)
+  from-short : (n : ℕ) (s : State) → Short (linesFrom k sheet n s)
   unfolding linesFrom
   from-short zero s = tt
-  from-short (suc k) s =
+  from-short (suc n) s =
       let c = commandAt sheet (s .at) in
-      by (stepOf c) (lineOf types ids sheet s c) (linesFrom types ids sheet k (afterOf s c)) (line-length s c) (from-short k (afterOf s c))
+      by (stepOf c) (lineOf k sheet s c) (linesFrom k sheet n (afterOf s c)) (line-length s c) (from-short n (afterOf s c))
     where
-      by : (x : Step) (l : List ℕ) (ls : List (List ℕ)) → length l ≤ 4150 → Short ls → Short (byStep types ids sheet x l ls)
+      by : (x : Step) (l : List ℕ) (ls : List (List ℕ)) → length l ≤ 4150 → Short ls → Short (byStep x l ls)
       by step.Over l ls h i = tt
       by step.Setting l ls h i = i
-      by step.Last l ls h i = (h, tt)
+      by (step.Last b) l ls h i = (h, tt)
       by step.Line l ls h i = (h, i)
 
-  pub sheet-short : Short (sheetLines types ids sheet)
-  unfolding sheetLines
+  pub sheet-short : Short (linesBy k sheet)
+  unfolding linesBy
   sheet-short = from-short (length sheet) begin
+
+-- Kept of the same streams, the lines are theirs.
+module _ (types ids sheet : List ℕ) (v : Near) (e : Kept types ids v) where
+  line-kept : (s : State) (c : Command) → lineOf (callsOver types ids v) sheet s c ≡ lineOf (callsTo types ids) sheet s c
+  unfolding lineOf
+  line-kept s End = refl
+  line-kept s (Flags n) = refl
+  line-kept s (PointerSize n) = refl
+  line-kept s (TypeText i) = ap (outcomeLine (s .lines + 1)) (type-over types v (e .ofTypes) (s .flags) (s .size) i 4096)
+  line-kept s (TypeSize i) = ap (λ x. sizeLine (s .lines + 1) (call.ofSize x)) (size-over types v (e .ofTypes) (s .size) i)
+  line-kept s (IdText i) = ap (outcomeLine (s .lines + 1)) (id-over types v (e .ofTypes) ids (e .ofIds) (s .flags) (s .size) i 4096)
+  line-kept s (FunctionText i) = ap (outcomeLine (s .lines + 1)) (function-over types v (e .ofTypes) (givenName sheet (s .at + 5)) (s .flags) (s .size) i 4096)
+  line-kept s (Faulty b) = refl
+
+  from-kept : (n : ℕ) (s : State) → linesFrom (callsOver types ids v) sheet n s ≡ linesFrom (callsTo types ids) sheet n s
+  unfolding linesFrom
+  from-kept zero s = refl
+  from-kept (suc n) s = let c = commandAt sheet (s .at) in ap₂ (byStep (stepOf c)) (line-kept s c) (from-kept n (afterOf s c))
+
+  pub lines-kept : linesOver types ids v sheet ≡ sheetLines types ids sheet
+  unfolding linesBy
+  lines-kept = from-kept (length sheet) begin
+
+  pub fit-kept-of : (skip room : ℕ) → fitOver types ids v sheet skip room ≡ sheetFit types ids sheet skip room
+  fit-kept-of skip room = ap (λ ls. fit room (drop skip ls)) lines-kept
 
 drop-short : (n : ℕ) (ls : List (List ℕ)) → Short ls → Short (drop n ls)
 drop-short zero ls h = h

@@ -4,32 +4,27 @@ use mathlib.Core.Bool.{Bool, true, false}
 use mathlib.Core.List.{List, [], _∷_, _++_}
 use mathlib.Core.Path.{_≡_}
 use lib.Dec.{leb, ltb}
-use lib.ListN.{length, drop}
+use lib.ListN.{length, take, drop}
 use Rattle.wire.specs.Field.{pick}
-use Rattle.pen.specs.Page.{PageRead, ink}
-use Rattle.pen.specs.declared.Pen.{Pen}
-use Rattle.sheet.specs.Sheet.{Fit, sheetLines, sheetFit}
+use Rattle.rules.specs.Places.{Near}
+use Rattle.sheet.specs.Sheet.{Fit, sheetLines, sheetFit, linesOver, fitOver}
 use Rattle.sheet.specs.declared.Printed.{Printed}
 use Rattle.sheet.specs.declared.State.{State}
 
--- A line at the start of a buffer, the rest as it was, and its length.
-pub record Whole (buf l : List ℕ) (out : List ℕ) (n : ℕ) : Type 0 where
-  pub length-is : n ≡ length l
-  pub buffer-is : out ≡ l ++ drop (length l) buf
-
--- A page as it is read, and whether there was no room.
+-- A buffer with how many bytes of it are printed, and whether there was no room for a line.
 pub record Placed : Type 0 where
-  pub on : PageRead
+  pub buf : List ℕ
+  pub at : ℕ
   pub full : Bool
 
-abbrev pub placedOn : PageRead → Bool → Placed
-placedOn g b = record { on = g; full = b }
+abbrev pub placed : List ℕ → ℕ → Bool → Placed
+placed buf at full = record { buf = buf; at = at; full = full }
 
 -- A line is left out where it was printed before, and where there is no room for the whole of it.
-unfoldable pub putOf : PageRead → Bool → List ℕ → Placed
-putOf g before l =
-    pick before (placedOn g false)
-    (pick (leb (length l) (length (g .buf) - g .pen .at)) (placedOn (ink g l) false) (placedOn g true))
+unfoldable pub putOf : List ℕ → ℕ → Bool → List ℕ → Placed
+putOf buf at before l =
+    pick before (placed buf at false)
+    (pick (leb (length l) (length buf - at)) (placed (take at buf ++ (l ++ drop (at + length l) buf)) (at + length l) false) (placed buf at true))
 
 -- The buffer at exit with the counts, and what they are of the lines that fit.
 pub record Shown : Type 0 where
@@ -60,6 +55,9 @@ pub record Continues (all : List (List ℕ)) (skip room : ℕ) (f : Fit) : Type 
 -- Nothing is lost of a sheet's lines behind the first `skip`, in so much room.
 abbrev pub SheetContinues : List ℕ → List ℕ → List ℕ → ℕ → ℕ → Type 0
 SheetContinues types ids sheet skip room = Continues (sheetLines types ids sheet) skip room (sheetFit types ids sheet skip room)
+
+abbrev pub ContinuesOver : List ℕ → List ℕ → Near → List ℕ → ℕ → ℕ → Type 0
+ContinuesOver types ids v sheet skip room = Continues (linesOver types ids v sheet) skip room (fitOver types ids v sheet skip room)
 
 -- A state whose place and lines are far below 2^64, so that they can be counted further.
 abbrev pub Countable : State → Type 0

@@ -6,7 +6,9 @@ use lib.Dec.{leb}
 use lib.ListN.{length, take, drop}
 use Rattle.wire.specs.Field.{pick}
 use Rattle.streams.specs.declared.refusal.Refusal.the-variants.{UnknownCommand}
-use Rattle.rules.specs.Call.{functionOutcome, idOutcome, typeOutcome, sizeOutcome, Report, ofSize}
+use Rattle.rules.specs.Call.{Outcome, Size, functionOutcome, idOutcome, typeOutcome, sizeOutcome, Report, ofSize}
+use Rattle.rules.specs.Places.{Near}
+use Rattle.checked_calls.specs.Checks.{functionOver, idOver, typeOver, sizeOver}
 use Rattle.sheet.specs.Command.{commandAt, givenName}
 use Rattle.sheet.specs.Line.{toldLine, refusedLine, outcomeLine, sizeLine}
 use Rattle.sheet.specs.declared.command.Command.{Command}
@@ -28,7 +30,7 @@ stepOf (TypeText i) = Line
 stepOf (TypeSize i) = Line
 stepOf (IdText i) = Line
 stepOf (FunctionText i) = Line
-stepOf (Faulty b) = Last
+stepOf (Faulty b) = Last b
 
 -- A setting holds until the next of its kind; a line counts one more. (Behind the end and behind a faulty command nothing is read.)
 abbrev pub behindOf : State → ℕ → State
@@ -48,9 +50,43 @@ afterOf s (Faulty b) = behindOf s 5
 unfoldable pub answerLine : ℕ → List ℕ → Report → List ℕ
 answerLine n buf t = toldLine n t (take (t .value) buf)
 
--- The line of a function command, whose name stands in the sheet. The text buffer has 4,096 bytes.
-abbrev pub functionLine : List ℕ → List ℕ → State → ℕ → List ℕ
-functionLine types sheet s i = outcomeLine (s .lines + 1) (functionOutcome (s .flags) (s .size) types (givenName sheet (s .at + 5)) i 4096)
+-- What a step makes of its line and of the lines behind it.
+abbrev pub byStep : Step → List ℕ → List (List ℕ) → List (List ℕ)
+byStep Over l ls = []
+byStep Setting l ls = ls
+byStep (Last b) l ls = l ∷ []
+byStep Line l ls = l ∷ ls
+
+-- The answers that lines are made of: of the text calls by flags, pointer size, (name,) index, in a text buffer of 4,096 bytes; of the size call by pointer
+-- size and index.
+pub record Calls : Type 0 where
+  pub function : ℕ → ℕ → List ℕ → ℕ → Outcome
+  pub id : ℕ → ℕ → ℕ → Outcome
+  pub typeText : ℕ → ℕ → ℕ → Outcome
+  pub typeSize : ℕ → ℕ → Size
+
+-- Those of the four calls to two streams; and those of the calls over what was kept of a check, whatever that is.
+abbrev pub callsTo : List ℕ → List ℕ → Calls
+callsTo types ids =
+    record {
+      function = λ flags size name i. functionOutcome flags size types name i 4096;
+      id = λ flags size i. idOutcome flags size types ids i 4096;
+      typeText = λ flags size i. typeOutcome flags size types i 4096;
+      typeSize = λ size i. sizeOutcome size types i;
+    }
+
+abbrev pub callsOver : List ℕ → List ℕ → Near → Calls
+callsOver types ids v =
+    record {
+      function = λ flags size name i. functionOver types v flags size name i 4096;
+      id = λ flags size i. idOver types ids v flags size i 4096;
+      typeText = λ flags size i. typeOver types v flags size i 4096;
+      typeSize = λ size i. sizeOver types v size i;
+    }
+
+-- The line of a function command, whose name stands in the sheet.
+abbrev pub functionLine : Calls → List ℕ → State → ℕ → List ℕ
+functionLine k sheet s i = outcomeLine (s .lines + 1) (k .function (s .flags) (s .size) (givenName sheet (s .at + 5)) i)
 
 -- As many whole lines as fit: their bytes, how many they are, and whether lines are left.
 pub record Fit : Type 0 where
@@ -66,35 +102,39 @@ fit room [] = record { bytes = []; lines = 0; more = false }
 fit room (l ∷ ls) =
     pick (leb (length l) room) (ahead l 1 (fit (room - length l) ls)) (record { bytes = []; lines = 0; more = true })
 
-module _ (types ids sheet : List ℕ) where
+module _ (k : Calls) (sheet : List ℕ) where
   -- The line of a command.
   unfoldable pub lineOf : State → Command → List ℕ
   lineOf s End = []
   lineOf s (Flags n) = []
   lineOf s (PointerSize n) = []
-  lineOf s (TypeText i) = outcomeLine (s .lines + 1) (typeOutcome (s .flags) (s .size) types i 4096)
-  lineOf s (TypeSize i) = sizeLine (s .lines + 1) (ofSize (sizeOutcome (s .size) types i))
-  lineOf s (IdText i) = outcomeLine (s .lines + 1) (idOutcome (s .flags) (s .size) types ids i 4096)
-  lineOf s (FunctionText i) = functionLine types sheet s i
+  lineOf s (TypeText i) = outcomeLine (s .lines + 1) (k .typeText (s .flags) (s .size) i)
+  lineOf s (TypeSize i) = sizeLine (s .lines + 1) (ofSize (k .typeSize (s .size) i))
+  lineOf s (IdText i) = outcomeLine (s .lines + 1) (k .id (s .flags) (s .size) i)
+  lineOf s (FunctionText i) = functionLine k sheet s i
   lineOf s (Faulty b) = refusedLine (s .lines + 1) (UnknownCommand b)
-
-  abbrev pub byStep : Step → List ℕ → List (List ℕ) → List (List ℕ)
-  byStep Over l ls = []
-  byStep Setting l ls = ls
-  byStep Last l ls = l ∷ []
-  byStep Line l ls = l ∷ ls
 
   -- The lines from a state on, so many commands long at most.
   unfoldable pub linesFrom : ℕ → State → List (List ℕ)
   linesFrom zero s = []
-  linesFrom (suc k) s =
+  linesFrom (suc n) s =
       let c = commandAt sheet (s .at) in
-      byStep (stepOf c) (lineOf s c) (linesFrom k (afterOf s c))
+      byStep (stepOf c) (lineOf s c) (linesFrom n (afterOf s c))
 
   -- All lines of the sheet: each command has a byte at least.
-  unfoldable pub sheetLines : List (List ℕ)
-  sheetLines = linesFrom (length sheet) begin
+  unfoldable pub linesBy : List (List ℕ)
+  linesBy = linesFrom (length sheet) begin
 
-  -- What is printed of them behind the first `skip`, in so much room.
-  abbrev pub sheetFit : ℕ → ℕ → Fit
-  sheetFit skip room = fit room (drop skip sheetLines)
+-- The lines of a sheet over two streams, and over what was kept of a check of them.
+abbrev pub sheetLines : List ℕ → List ℕ → List ℕ → List (List ℕ)
+sheetLines types ids sheet = linesBy (callsTo types ids) sheet
+
+abbrev pub linesOver : List ℕ → List ℕ → Near → List ℕ → List (List ℕ)
+linesOver types ids v sheet = linesBy (callsOver types ids v) sheet
+
+-- What is printed of them behind the first `skip`, in so much room.
+abbrev pub sheetFit : List ℕ → List ℕ → List ℕ → ℕ → ℕ → Fit
+sheetFit types ids sheet skip room = fit room (drop skip (sheetLines types ids sheet))
+
+abbrev pub fitOver : List ℕ → List ℕ → Near → List ℕ → ℕ → ℕ → Fit
+fitOver types ids v sheet skip room = fit room (drop skip (linesOver types ids v sheet))

@@ -1,28 +1,23 @@
 // Sheets: lists of commands, each text or size asked for answered by a line.
 ghost use mathlib.Core.Path.{_≡_};
-ghost use mathlib.Core.List.{_++_};
+ghost use mathlib.Core.Bool.{false};
 ghost use Prim.Native.Nat.{_+_, _-_, _≤_, _<_};
 ghost use lib.Dec.{ltb};
 ghost use lib.ListN.{length};
 ghost use Rattle.rules.specs.Places.{near};
-ghost use Rattle.checked_calls.specs.Kept.{KeptOf};
-ghost use Rattle.streams.specs.declared.refusal.StreamKind.the-variants.{Types, Ids};
+ghost use Rattle.rules.specs.Record.{nameAt};
+ghost use Rattle.streams.specs.declared.refusal.Refusal.the-variants.{UnknownCommand};
 ghost use Rattle.sheet.specs.Command.{givenName};
-ghost use Rattle.pen.specs.Page.{readPage, page};
-ghost use Rattle.checked_calls.specs.Answers.{ofAnswer};
-ghost use Rattle.checked_calls.specs.Checks.{ofSizeAnswer};
-ghost use Rattle.sheet.specs.Line.{sizeLine, refusedLine};
-ghost use Rattle.sheet.specs.Sheet.{begin, afterOf, behindOf, stepOf, answerLine, functionLine, lineOf, sheetFit};
-ghost use Rattle.sheet.specs.Printed.{placedOn, putOf, shown, laidOut, Whole, SheetContinues, Countable};
+ghost use Rattle.sheet.specs.Line.{refusedLine};
+ghost use Rattle.sheet.specs.Sheet.{begin, afterOf, behindOf, stepOf, callsOver, functionLine, lineOf, sheetFit, fitOver};
+ghost use Rattle.sheet.specs.Printed.{placed, putOf, shown, laidOut, SheetContinues, ContinuesOver, Countable};
 use crate::command::Command;
 use crate::command::command_at;
 use crate::command::name_end;
-use crate::line::emit_refused;
-use crate::line::emit_size;
-use crate::line::emit_text;
-use checked_calls::answer::Answer;
-use checked_calls::answer::start;
-use checked_calls::calls::SizeAnswer;
+use crate::line::answer_line;
+use crate::line::copy;
+use crate::line::refused_line;
+use crate::line::size_line;
 use checked_calls::calls::function_over;
 use checked_calls::calls::id_over;
 use checked_calls::calls::size_over;
@@ -31,7 +26,6 @@ use checked_calls::kept::keep_both;
 use codeview::index::IdIndex;
 use codeview::index::TypeIndex;
 use leaf_writers::names::name_of;
-use pen::Pen;
 use streams::refusal::Refusal;
 use wire::name::Name;
 
@@ -46,17 +40,17 @@ pub struct State {
     pub size: u32,
 }
 
-// What a command does: nothing, at the end; set something; print a line and end; print a line.
+// What a command does: nothing, at the end; set something; print the line of an unknown byte and end; print a line.
 pub enum Step {
     Over,
     Setting,
-    Last,
+    Last(u8),
     Line,
 }
 
-// The pen after a line, and whether there was no room for it.
+// How many bytes are printed after a line, and whether there was no room for it.
 pub struct Put {
-    pub pen: Pen,
+    pub at: usize,
     pub full: bool,
 }
 
@@ -78,7 +72,7 @@ fn step_of(c: Command) -> Step
         Command::TypeSize(i) => Step::Line,
         Command::IdText(i) => Step::Line,
         Command::FunctionText(i) => Step::Line,
-        Command::Faulty(b) => Step::Last,
+        Command::Faulty(b) => Step::Last(b),
     }
 }
 
@@ -122,55 +116,9 @@ fn after(s: State, c: Command) -> State
     }
 }
 
-// The line of a text call, by its answer and its buffer.
-fn write_answer(line: &mut [u8], number: u64, a: Answer, text: &[u8]) -> usize
-    requires { ⌜ length (now text) + 54 ≤ length (now line) ⌝ }
-    ensures { λ r. ⌜ Whole (now (line .entry)) (answerLine number (now (text .entry)) (ofAnswer a)) (now (line .exit)) r ⌝ }
+fn done(bytes: usize, lines: usize, skip: usize, more: bool) -> Printed
+    ensures { λ r. ⌜ (r .bytes ≡ bytes) × ((r .lines ≡ lines - skip) × (r .more ≡ more)) ⌝ }
 {
-    let p = start(line.len());
-    match a {
-        Answer::Text(n) => {
-            let q = emit_text(line, p, number, name_of(text, Name { start: 0, len: n }));
-            q.at
-        }
-        Answer::Refused(f) => {
-            let q = emit_refused(line, p, number, f);
-            q.at
-        }
-    }
-}
-
-// The line of a size call.
-fn write_size(line: &mut [u8], number: u64, a: SizeAnswer) -> usize
-    requires { ⌜ 74 ≤ length (now line) ⌝ }
-    ensures { λ r. ⌜ Whole (now (line .entry)) (sizeLine number (ofSizeAnswer a)) (now (line .exit)) r ⌝ }
-{
-    let p = start(line.len());
-    match a {
-        SizeAnswer::Bytes(n) => {
-            let q = emit_size(line, p, number, n);
-            q.at
-        }
-        SizeAnswer::Refused(f) => {
-            let q = emit_refused(line, p, number, f);
-            q.at
-        }
-    }
-}
-
-fn write_refused(line: &mut [u8], number: u64, f: Refusal) -> usize
-    requires { ⌜ 74 ≤ length (now line) ⌝ }
-    ensures { λ r. ⌜ Whole (now (line .entry)) (refusedLine number f) (now (line .exit)) r ⌝ }
-{
-    let p = start(line.len());
-    let q = emit_refused(line, p, number, f);
-    q.at
-}
-
-fn done(p: Pen, lines: usize, skip: usize, more: bool) -> Printed
-    ensures { λ r. ⌜ (r .bytes ≡ p .at) × ((r .lines ≡ lines - skip) × (r .more ≡ more)) ⌝ }
-{
-    let bytes = p.at;
     if lines < skip {
         return Printed {
             bytes,
@@ -199,35 +147,41 @@ fn given_name<'a>(sheet: &'a [u8], at: usize) -> &'a [u8]
     )
 }
 
+fn no_line() -> Name
+    ensures { λ r. ⌜ (r .start ≡ 0) × (r .len ≡ 0) ⌝ }
+{
+    Name { start: 0, len: 0 }
+}
+
 // The line of a function command.
 fn function_line(
     types: &[u8],
+    ids: &[u8],
     sheet: &[u8],
     bounds: &[u32],
     places: &[u32],
     line: &mut [u8],
-    text: &mut [u8],
     s: State,
     index: u32,
-) -> usize
-    requires { ⌜ KeptOf Types (now types) (near (now bounds) (now places)) × ((4150 ≤ length (now line)) × ((length (now text) ≡ 4096) × Countable s)) ⌝ }
-    ensures { λ r. ⌜ Whole (now (line .entry)) (functionLine (now (types .entry)) (now (sheet .entry)) s index) (now (line .exit)) r ⌝ }
+) -> Name
+    requires { ⌜ (length (now line) ≡ 4124) × Countable s ⌝ }
+    ensures { λ r. ⌜ nameAt (now (line .exit)) r ≡ functionLine (callsOver (now (types .entry)) (now (ids .entry)) (near (now (bounds .entry)) (now (places .entry)))) (now (sheet .entry)) s index ⌝ }
 {
     let name = given_name(sheet, s.at + 5);
     let a = function_over(
         types,
         bounds,
         places,
-        text,
+        &mut line[27..4123],
         s.flags,
         s.size,
         name,
         TypeIndex(index),
     );
-    write_answer(line, (s.lines + 1) as u64, a, text)
+    answer_line(line, (s.lines + 1) as u64, a)
 }
 
-// The line of a command at the start of a buffer; of a command with no line, nothing. A text call writes to the other buffer first.
+// The line of a command; of a command with no line, nothing. A text call writes to its place in the line.
 fn line_of(
     types: &[u8],
     ids: &[u8],
@@ -235,20 +189,21 @@ fn line_of(
     bounds: &[u32],
     places: &[u32],
     line: &mut [u8],
-    text: &mut [u8],
     s: State,
     c: Command,
-) -> usize
-    requires { ⌜ KeptOf Types (now types) (near (now bounds) (now places)) × (KeptOf Ids (now ids) (near (now bounds) (now places)) × ((4150 ≤ length (now line)) × ((length (now text) ≡ 4096) × Countable s))) ⌝ }
-    ensures { λ r. ⌜ Whole (now (line .entry)) (lineOf (now (types .entry)) (now (ids .entry)) (now (sheet .entry)) s c) (now (line .exit)) r ⌝ }
+) -> Name
+    requires { ⌜ (length (now line) ≡ 4124) × Countable s ⌝ }
+    ensures { λ r. ⌜ nameAt (now (line .exit)) r ≡ lineOf (callsOver (now (types .entry)) (now (ids .entry)) (near (now (bounds .entry)) (now (places .entry)))) (now (sheet .entry)) s c ⌝ }
 {
     let number = (s.lines + 1) as u64;
     match c {
         Command::TypeText(i) => {
+            let text = &mut line[27..4123];
             let a = type_over(types, bounds, places, text, s.flags, s.size, TypeIndex(i));
-            write_answer(line, number, a, text)
+            answer_line(line, number, a)
         }
         Command::IdText(i) => {
+            let text = &mut line[27..4123];
             let a = id_over(
                 types,
                 ids,
@@ -259,22 +214,38 @@ fn line_of(
                 s.size,
                 IdIndex(i),
             );
-            write_answer(line, number, a, text)
+            answer_line(line, number, a)
         }
-        Command::FunctionText(i) => function_line(types, sheet, bounds, places, line, text, s, i),
-        Command::TypeSize(i) => write_size(
-            line,
-            number,
-            size_over(types, bounds, places, s.size, TypeIndex(i)),
-        ),
-        Command::Faulty(b) => write_refused(line, number, Refusal::UnknownCommand(b as u32)),
-        Command::End => 0,
-        Command::Flags(n) => 0,
-        Command::PointerSize(n) => 0,
+        Command::FunctionText(i) => function_line(types, ids, sheet, bounds, places, line, s, i),
+        Command::TypeSize(i) => {
+            let a = size_over(types, bounds, places, s.size, TypeIndex(i));
+            size_line(line, number, a)
+        }
+        Command::Faulty(b) => refused_line(line, number, Refusal::UnknownCommand(b as u32)),
+        Command::End => no_line(),
+        Command::Flags(n) => no_line(),
+        Command::PointerSize(n) => no_line(),
     }
 }
 
-// A line on the page, unless it was printed before or does not fit.
+// A line on the page, unless it does not fit.
+fn put_bytes(out: &mut [u8], at: usize, bs: &[u8]) -> Put
+    requires { ⌜ at ≤ length (now out) ⌝ }
+    ensures { λ r. ⌜ placed (now (out .exit)) (r .at) (r .full) ≡ putOf (now (out .entry)) at false (now (bs .entry)) ⌝ }
+{
+    let n = bs.len();
+    if n > out.len() - at {
+        return Put { at, full: true };
+    }
+    let end = at + n;
+    copy(&mut out[at..end], bs);
+    Put {
+        at: end,
+        full: false,
+    }
+}
+
+// The line of a command, unless it was printed before or does not fit.
 fn put_line(
     types: &[u8],
     ids: &[u8],
@@ -282,31 +253,32 @@ fn put_line(
     bounds: &[u32],
     places: &[u32],
     line: &mut [u8],
-    text: &mut [u8],
     out: &mut [u8],
-    p: Pen,
+    at: usize,
     s: State,
     c: Command,
     skip: usize,
 ) -> Put
-    requires { ⌜ KeptOf Types (now types) (near (now bounds) (now places)) × (KeptOf Ids (now ids) (near (now bounds) (now places)) × ((4150 ≤ length (now line)) × ((length (now text) ≡ 4096) × ((p .at ≤ length (now out)) × Countable s)))) ⌝ }
-    ensures { λ r. ⌜ placedOn (readPage (page (now (out .exit)) (r .pen))) (r .full) ≡ putOf (readPage (page (now (out .entry)) p)) (ltb (s .lines) skip) (lineOf (now (types .entry)) (now (ids .entry)) (now (sheet .entry)) s c) ⌝ }
+    requires { ⌜ (length (now line) ≡ 4124) × ((at ≤ length (now out)) × Countable s) ⌝ }
+    ensures { λ r. ⌜ placed (now (out .exit)) (r .at) (r .full) ≡ putOf (now (out .entry)) at (ltb (s .lines) skip) (lineOf (callsOver (now (types .entry)) (now (ids .entry)) (near (now (bounds .entry)) (now (places .entry)))) (now (sheet .entry)) s c) ⌝ }
 {
     if s.lines < skip {
-        return Put {
-            pen: p,
-            full: false,
-        };
+        return Put { at, full: false };
     }
-    let n = line_of(types, ids, sheet, bounds, places, line, text, s, c);
-    if n > out.len() - p.at {
-        return Put { pen: p, full: true };
+    let n = line_of(types, ids, sheet, bounds, places, line, s, c);
+    put_bytes(out, at, name_of(line, n))
+}
+
+// The last line, that of an unknown or cut command.
+fn put_last(line: &mut [u8], out: &mut [u8], at: usize, lines: usize, byte: u8, skip: usize) -> Put
+    requires { ⌜ (length (now line) ≡ 4124) × ((at ≤ length (now out)) × (lines < 9223372036854775808)) ⌝ }
+    ensures { λ r. ⌜ placed (now (out .exit)) (r .at) (r .full) ≡ putOf (now (out .entry)) at (ltb lines skip) (refusedLine (lines + 1) (UnknownCommand byte)) ⌝ }
+{
+    if lines < skip {
+        return Put { at, full: false };
     }
-    let q = pen::text(out, p, &line[..n]);
-    Put {
-        pen: q,
-        full: false,
-    }
+    let n = refused_line(line, (lines + 1) as u64, Refusal::UnknownCommand(byte as u32));
+    put_bytes(out, at, name_of(line, n))
 }
 
 fn first_state() -> State
@@ -320,7 +292,7 @@ fn first_state() -> State
     }
 }
 
-// The lines of a sheet on the page from its start, over streams that are checked. Both buffers are lent to every line.
+// The lines of a sheet on the page from its start. The buffer of a line is lent to every line.
 fn put_lines(
     types: &[u8],
     ids: &[u8],
@@ -328,63 +300,53 @@ fn put_lines(
     bounds: &[u32],
     places: &[u32],
     line: &mut [u8],
-    text: &mut [u8],
     out: &mut [u8],
     skip: usize,
 ) -> Printed
-    requires { ⌜ KeptOf Types (now types) (near (now bounds) (now places)) × (KeptOf Ids (now ids) (near (now bounds) (now places)) × ((4150 ≤ length (now line)) × (length (now text) ≡ 4096))) ⌝ }
-    ensures { λ r. ⌜ shown (now (out .exit)) r ≡ laidOut (now (out .entry)) (sheetFit (now (types .entry)) (now (ids .entry)) (now (sheet .entry)) skip (length (now (out .entry)))) ⌝ }
+    requires { ⌜ length (now line) ≡ 4124 ⌝ }
+    ensures { λ r. ⌜ shown (now (out .exit)) r ≡ laidOut (now (out .entry)) (fitOver (now (types .entry)) (now (ids .entry)) (near (now (bounds .entry)) (now (places .entry))) (now (sheet .entry)) skip (length (now (out .entry)))) ⌝ }
 {
-    let mut p = start(out.len());
+    let mut at: usize = 0;
     let mut s = first_state();
     loop {
         let c = command_at(sheet, s.at);
         match step_of(c) {
-            Step::Over => return done(p, s.lines, skip, false),
+            Step::Over => return done(at, s.lines, skip, false),
             Step::Setting => s = after(s, c),
-            Step::Last => {
-                let q = put_line(
-                    types,
-                    ids,
-                    sheet,
-                    bounds,
-                    places,
-                    line,
-                    text,
-                    out,
-                    p,
-                    s,
-                    c,
-                    skip,
-                );
+            Step::Last(b) => {
+                let q = put_last(line, out, at, s.lines, b, skip);
                 if q.full {
-                    return done(q.pen, s.lines, skip, true);
+                    return done(q.at, s.lines, skip, true);
                 }
-                return done(q.pen, s.lines + 1, skip, false);
+                return done(q.at, s.lines + 1, skip, false);
             }
             Step::Line => {
-                let q = put_line(
-                    types,
-                    ids,
-                    sheet,
-                    bounds,
-                    places,
-                    line,
-                    text,
-                    out,
-                    p,
-                    s,
-                    c,
-                    skip,
-                );
+                let q = put_line(types, ids, sheet, bounds, places, line, out, at, s, c, skip);
                 if q.full {
-                    return done(q.pen, s.lines, skip, true);
+                    return done(q.at, s.lines, skip, true);
                 }
-                p = q.pen;
+                at = q.at;
                 s = after(s, c);
             }
         }
     }
+}
+
+// Prints a sheet's lines over what was kept of a check of both streams: as `print_sheet` does, where it was kept of these.
+pub fn print_over(
+    types: &[u8],
+    ids: &[u8],
+    bounds: &[u32],
+    places: &[u32],
+    sheet: &[u8],
+    out: &mut [u8],
+    skip: usize,
+) -> Printed
+    ensures { λ r. ⌜ shown (now (out .exit)) r ≡ laidOut (now (out .entry)) (fitOver (now (types .entry)) (now (ids .entry)) (near (now (bounds .entry)) (now (places .entry))) (now (sheet .entry)) skip (length (now (out .entry)))) ⌝ }
+    ensures { λ _. ⌜ ContinuesOver (now (types .entry)) (now (ids .entry)) (near (now (bounds .entry)) (now (places .entry))) (now (sheet .entry)) skip (length (now (out .entry))) ⌝ }
+{
+    let mut line = [0u8; 4124];
+    put_lines(types, ids, sheet, bounds, places, &mut line, out, skip)
 }
 
 // Prints a sheet's lines, without the first `skip` of them, as far as whole lines fit into the buffer. Each stream is checked once. A caller with more lines
@@ -395,17 +357,5 @@ pub fn print_sheet(types: &[u8], ids: &[u8], sheet: &[u8], out: &mut [u8], skip:
 {
     let mut places = [0u32; 8192];
     let bounds = keep_both(types, ids, 0, &mut places, 4096);
-    let mut line = [0u8; 4160];
-    let mut text = [0u8; 4096];
-    put_lines(
-        types,
-        ids,
-        sheet,
-        &bounds,
-        &places,
-        &mut line,
-        &mut text,
-        out,
-        skip,
-    )
+    print_over(types, ids, &bounds, &places, sheet, out, skip)
 }

@@ -9,7 +9,7 @@ use lib.ListN.{length, drop, length-append, length-drop}
 use borrow.Author.Tests.{lt-ltb}
 use Rattle.wire.specs.Field.{pick}
 use Rattle.sheet.specs.Command.{commandAt}
-use Rattle.sheet.specs.Sheet.{Fit, ahead, fit, lineOf, byStep, stepOf, afterOf, linesFrom, sheetLines, begin}
+use Rattle.sheet.specs.Sheet.{Fit, ahead, fit, Calls, callsTo, lineOf, byStep, stepOf, afterOf, linesFrom, linesBy, sheetLines, begin}
 use Rattle.sheet.specs.Printed.{Shown, shown, laidOut, Continues}
 use Rattle.sheet.specs.declared.Printed.{Printed}
 use Rattle.sheet.specs.declared.State.{State}
@@ -28,21 +28,21 @@ fit-most room (l ∷ ls) = by (leb (length l) room) (fit-most (room - length l) 
     by true h = omega arith
     by false h = omega arith
 
-module _ (types ids sheet : List ℕ) where
-  from-most : (k : ℕ) (s : State) → length (linesFrom types ids sheet k s) ≤ k
+module _ (calls : Calls) (sheet : List ℕ) where
+  from-most : (k : ℕ) (s : State) → length (linesFrom calls sheet k s) ≤ k
   unfolding linesFrom
   from-most zero s = omega arith
-  from-most (suc k) s = by (stepOf (commandAt sheet (s .at))) (lineOf types ids sheet s (commandAt sheet (s .at))) (linesFrom types ids sheet k (afterOf s (commandAt sheet (s .at)))) (from-most k (afterOf s (commandAt sheet (s .at))))
+  from-most (suc k) s = by (stepOf (commandAt sheet (s .at))) (lineOf calls sheet s (commandAt sheet (s .at))) (linesFrom calls sheet k (afterOf s (commandAt sheet (s .at)))) (from-most k (afterOf s (commandAt sheet (s .at))))
     where
-      by : (x : Step) (l : List ℕ) (ls : List (List ℕ)) → length ls ≤ k → length (byStep types ids sheet x l ls) ≤ suc k
+      by : (x : Step) (l : List ℕ) (ls : List (List ℕ)) → length ls ≤ k → length (byStep x l ls) ≤ suc k
       by step.Over l ls h = omega arith
       by step.Setting l ls h = omega arith
-      by step.Last l ls h = omega arith
+      by (step.Last b) l ls h = omega arith
       by step.Line l ls h = omega arith
 
-  pub sheet-most : length (sheetLines types ids sheet) ≤ length sheet
-  unfolding sheetLines
-  sheet-most = from-most (length sheet) begin
+pub sheet-most : (types ids sheet : List ℕ) → length (sheetLines types ids sheet) ≤ length sheet
+unfolding linesBy
+sheet-most types ids sheet = from-most (callsTo types ids) sheet (length sheet) begin
 
 -- The bytes that a turn says lie in the buffer.
 pub bytes-within : (buf : List ℕ) (f : Fit) {out : List ℕ} {p : Printed} → shown out p ≡ laidOut buf f → p .bytes ≤ length out

@@ -1,14 +1,11 @@
--- The lines over the checked streams, with buffers that are long enough; and nothing of them is lost.
+-- The lines over what was kept of both streams are theirs; and nothing of them is lost.
 -- Assumes nothing.
+use mathlib.Core.Path.{_∙_, ap}
+use Rattle.sheet.specs.Printed.{laidOut}
+use Rattle.sheet.proofs.SheetLaws.{continues, sheet-short, bounded-to, fit-kept-of}
 use borrow.Author.Needs.{needs}
-use native.Mathlib.Omega.{arith}
-use Rattle.sheet.proofs.SheetLaws.{continues, sheet-short}
 use Rattle.sheet.proofs.print_sheet.Statement.{statement}
 use Rattle.sheet.proofs.print_sheet.Tie as tie
-use Rattle.sheet.proofs.print_sheet.Reads as reads
-use Rattle.sheet.proofs.print_sheet.Lts as lts
-use Rattle.sheet.proofs.put_lines.Reads as put-lines-reads
-use Rattle.checked_calls.proofs.kept.keep_both.Reads as keep-both-reads
 
 slice-aggregate-keep-both : tie.Need-slice-aggregate-keep-both
 slice-aggregate-keep-both c = search needs
@@ -16,23 +13,17 @@ slice-aggregate-keep-both c = search needs
 keep-both-requires : tie.Need-keep-both-requires
 keep-both-requires c κs = search needs
 
-slice-aggregate-put-lines : tie.Need-slice-aggregate-put-lines
-slice-aggregate-put-lines c = search needs
+slice-aggregate-print-over : tie.Need-slice-aggregate-print-over
+slice-aggregate-print-over c = search needs
 
-slice-aggregate-put-lines-2 : tie.Need-slice-aggregate-put-lines-2
-slice-aggregate-put-lines-2 c = search needs
+slice-aggregate-print-over-2 : tie.Need-slice-aggregate-print-over-2
+slice-aggregate-print-over-2 c = search needs
 
-slice-aggregate-put-lines-3 : tie.Need-slice-aggregate-put-lines-3
-slice-aggregate-put-lines-3 c = search needs
-
-slice-aggregate-put-lines-4 : tie.Need-slice-aggregate-put-lines-4
-slice-aggregate-put-lines-4 c = search needs
-
-put-lines-requires : tie.Need-put-lines-requires
-put-lines-requires c κs = (c .before .before .before .before .before .before .keep-both .ensures .ofTypes, (c .before .before .before .before .before .before .keep-both .ensures .ofIds, (search needs, search needs)))
+print-over-requires : tie.Need-print-over-requires
+print-over-requires c κs = search needs
 
 returns : tie.Need-returns
-returns c = (c .before .before .before .before .put-lines .ensures, continues _ _ _ (sheet-short _ _ _))
+returns c = (c .before .before .print-over .ensures .0 ∙ ap (laidOut _) (fit-kept-of _ _ (c .before .before .before .before .before .before .before .before .before .before .before .before .before .args .sheet .now) _ (c .before .before .before .before .before .before .before .keep-both .ensures) (c .before .before .before .before .before .before .before .before .before .before .before .before .before .args .skip) _), continues _ _ _ (sheet-short _ (bounded-to _ _) _))
 
 same-length : tie.Need-same-length
 same-length c = search needs
@@ -43,10 +34,8 @@ print-sheet-spec =
     (tie.spec
     slice-aggregate-keep-both
     keep-both-requires
-    slice-aggregate-put-lines
-    slice-aggregate-put-lines-2
-    slice-aggregate-put-lines-3
-    slice-aggregate-put-lines-4
-    put-lines-requires
+    slice-aggregate-print-over
+    slice-aggregate-print-over-2
+    print-over-requires
     same-length
     returns)

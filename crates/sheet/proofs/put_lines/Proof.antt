@@ -1,39 +1,28 @@
--- The invariant: what is printed so far, and what fits of the lines from the state on, is what fits of all; the two buffers keep their lengths. The measure is
+-- The invariant: what is printed so far, and what fits of the lines from the state on, is what fits of all; the line's buffer keeps its length. The measure is
 -- what is left of the sheet.
 -- Assumes nothing.
 use borrow.Author.Needs.{needs}
 use Prim.Native.Nat.{ℕ, _-_}
-use mathlib.Core.Logic.{inl, inr}
 use mathlib.Core.Path.{_≡_, refl, _∙_}
 use lib.ListN.{length}
 use native.Mathlib.Omega.{arith}
-use Rattle.sheet.proofs.SheetLaws.{Going, going-first, going-over, going-set, going-line, going-last, going-stuck, going-length, going-at, inside-set, inside-last, inside-line, less-set, less-line, put-length, full-as}
+use Rattle.rules.specs.Places.{near}
+use Rattle.sheet.specs.Sheet.{callsOver}
+use Rattle.sheet.proofs.SheetLaws.{Going, going-first, going-over, going-set, going-line, going-last, line-full, last-full, going-length, going-at, inside-set, inside-last, inside-line, less-set, less-line, put-length, full-as}
 use Rattle.sheet.proofs.put_lines.Statement.{statement}
 use Rattle.sheet.proofs.put_lines.Tie as tie
-use Rattle.sheet.proofs.put_lines.Reads as reads
-use Rattle.sheet.proofs.put_lines.Lts as lts
-use Rattle.checked_calls.proofs.answer.start.Reads as start-reads
-use Rattle.sheet.proofs.command.command_at.Reads as command-at-reads
-use Rattle.sheet.proofs.after.Reads as after-reads
-use Rattle.sheet.proofs.done.Reads as done-reads
-use Rattle.sheet.proofs.put_line.Reads as put-line-reads
-use Rattle.sheet.proofs.step_of.Reads as step-of-reads
-use Rattle.sheet.proofs.first_state.Reads as first-state-reads
 
 abbrev Inv-loop : tie.InvT-loop
-Inv-loop types ids sheet bounds places line₀ text₀ out₀ skip p₀ s₀ line text out p s = Going types ids sheet out₀ skip out p s × ((length line ≡ length line₀) × (length text ≡ length text₀))
+Inv-loop types ids sheet bounds places line₀ out₀ skip at₀ s₀ line out at s = Going (callsOver types ids (near bounds places)) sheet out₀ skip out at s × (length line ≡ length line₀)
 
 abbrev μ-loop : tie.MeasureT-loop
-μ-loop types ids sheet bounds places line₀ text₀ out₀ skip p₀ s₀ line text out p s = length sheet - s .at
-
-start-requires : tie.Need-start-requires Inv-loop μ-loop
-start-requires c κs = search needs
+μ-loop types ids sheet bounds places line₀ out₀ skip at₀ s₀ line out at s = length sheet - s .at
 
 first-state-requires : tie.Need-first-state-requires Inv-loop μ-loop
 first-state-requires c κs = search needs
 
 loop-holds : tie.Need-loop-holds Inv-loop μ-loop
-loop-holds c = (rw (c .first-state .ensures) (going-first _ _ _ _ _ _ (c .before .start .ensures) (omega arith)), (refl, refl))
+loop-holds c = (rw (c .first-state .ensures) (going-first _ _ _ _ (omega arith)), refl)
 
 command-at-requires : tie.Need-command-at-requires Inv-loop μ-loop
 command-at-requires c κs = search needs
@@ -48,97 +37,85 @@ done-requires : tie.Need-done-requires Inv-loop μ-loop
 done-requires c κs = search needs
 
 returns : tie.Need-returns Inv-loop μ-loop
-returns c = going-over _ _ _ _ _ (c .before .before .before .before .before .loop .inv .0) (c .before .before .before .before .command-at .ensures) (c .before .before .before .step-of .ensures) (search (c .before .enum-told .given, needs)) (c .done .ensures)
+returns c = going-over _ _ _ _ (c .before .before .before .before .before .loop .inv .0) (c .before .before .before .before .command-at .ensures) (c .before .before .before .step-of .ensures) (search (c .before .enum-told .given, needs)) (c .done .ensures)
 
 enum-told-2 : tie.Need-enum-told-2 Inv-loop μ-loop
 enum-told-2 c = search needs
 
 after-requires : tie.Need-after-requires Inv-loop μ-loop
-after-requires c κs = (omega (arith, c .before .before .before .before .loop .inv .0 .short, inside-set _ _ _ _ _ (c .before .before .before .before .loop .inv .0) (c .before .before .before .command-at .ensures) (c .before .before .step-of .ensures) (search (c .enum-told2 .given, needs))), omega (arith, c .before .before .before .before .loop .inv .0 .short, inside-set _ _ _ _ _ (c .before .before .before .before .loop .inv .0) (c .before .before .before .command-at .ensures) (c .before .before .step-of .ensures) (search (c .enum-told2 .given, needs)), c .before .before .before .before .loop .inv .0 .low))
+after-requires c κs = (omega (arith, c .before .before .before .before .loop .inv .0 .short, inside-set _ _ _ _ (c .before .before .before .before .loop .inv .0) (c .before .before .before .command-at .ensures) (c .before .before .step-of .ensures) (search (c .enum-told2 .given, needs))), omega (arith, c .before .before .before .before .loop .inv .0 .short, inside-set _ _ _ _ (c .before .before .before .before .loop .inv .0) (c .before .before .before .command-at .ensures) (c .before .before .step-of .ensures) (search (c .enum-told2 .given, needs)), c .before .before .before .before .loop .inv .0 .low))
 
 loop-less : tie.Need-loop-less Inv-loop μ-loop
-loop-less c = less-set _ _ _ _ _ (c .before .before .before .before .before .loop .inv .0) (c .before .before .before .before .command-at .ensures) (c .before .before .before .step-of .ensures) (search (c .before .enum-told2 .given, needs)) (c .after .ensures)
+loop-less c = less-set _ _ _ _ (c .before .before .before .before .before .loop .inv .0) (c .before .before .before .before .command-at .ensures) (c .before .before .before .step-of .ensures) (search (c .before .enum-told2 .given, needs)) (c .after .ensures)
 
 loop-again : tie.Need-loop-again Inv-loop μ-loop
-loop-again c = (going-set _ _ _ _ _ (c .before .before .before .before .before .loop .inv .0) (c .before .before .before .before .command-at .ensures) (c .before .before .before .step-of .ensures) (c .after .ensures) (search (c .before .enum-told2 .given, needs)), c .before .before .before .before .before .loop .inv .1)
+loop-again c = (going-set _ _ _ _ (c .before .before .before .before .before .loop .inv .0) (c .before .before .before .before .command-at .ensures) (c .before .before .before .step-of .ensures) (c .after .ensures) (search (c .before .enum-told2 .given, needs)), c .before .before .before .before .before .loop .inv .1)
 
-enum-told-3 : tie.Need-enum-told-3 Inv-loop μ-loop
-enum-told-3 c = search needs
+enum-known-b : tie.Need-enum-known-b Inv-loop μ-loop
+enum-known-b c = search needs
 
-put-line-requires : tie.Need-put-line-requires Inv-loop μ-loop
-put-line-requires c κs = (c .before .before .before .before .before .before .before .before .before .before .before .before .before .before .before .before .before .before .pre .0, (c .before .before .before .before .before .before .before .before .before .before .before .before .before .before .before .before .before .before .pre .1 .0, (omega (arith, c .before .before .before .before .before .before .before .before .before .before .before .before .before .before .before .before .before .before .pre .1 .1 .0, c .before .before .before .before .before .before .before .loop .inv .1 .0), (omega (arith, c .before .before .before .before .before .before .before .before .before .before .before .before .before .before .before .before .before .before .pre .1 .1 .1, c .before .before .before .before .before .before .before .loop .inv .1 .1), (going-at _ _ _ _ _ (c .before .before .before .before .before .before .before .loop .inv .0), (omega (arith, c .before .before .before .before .before .before .before .loop .inv .0 .short, inside-last _ _ _ _ _ (c .before .before .before .before .before .before .before .loop .inv .0) (c .before .before .before .before .before .before .command-at .ensures) (c .before .before .before .before .before .step-of .ensures) (search (c .before .before .before .enum-told3 .given, needs))), omega (arith, c .before .before .before .before .before .before .before .loop .inv .0 .short, inside-last _ _ _ _ _ (c .before .before .before .before .before .before .before .loop .inv .0) (c .before .before .before .before .before .before .command-at .ensures) (c .before .before .before .before .before .step-of .ensures) (search (c .before .before .before .enum-told3 .given, needs)), c .before .before .before .before .before .before .before .loop .inv .0 .low)))))))
+put-last-requires : tie.Need-put-last-requires Inv-loop μ-loop
+put-last-requires c κs = (c .before .before .before .before .before .before .before .loop .inv .1 ∙ c .before .before .before .before .before .before .before .before .before .before .before .before .before .before .before .before .pre, (going-at _ _ _ _ (c .before .before .before .before .before .before .before .loop .inv .0), omega (arith, c .before .before .before .before .before .before .before .loop .inv .0 .short, inside-last _ _ _ _ (c .before .before .before .before .before .before .before .loop .inv .0) (c .before .before .before .before .before .before .command-at .ensures) (c .before .before .before .before .before .step-of .ensures) (c .before .before .before .b .given .1), c .before .before .before .before .before .before .before .loop .inv .0 .low)))
 
 done-requires-2 : tie.Need-done-requires-2 Inv-loop μ-loop
 done-requires-2 c κs = search needs
 
 returns-2 : tie.Need-returns-2 Inv-loop μ-loop
-returns-2 c = going-stuck _ _ _ _ _ (c .before .before .before .before .before .before .before .before .before .before .before .before .before .before .before .before .loop .inv .0) (c .before .before .before .before .before .before .before .before .before .before .before .before .before .before .before .command-at .ensures) (c .before .before .before .before .before .before .before .before .before .before .before .before .before .before .step-of .ensures) (inl (search (c .before .before .before .before .before .before .before .before .before .before .before .before .enum-told3 .given, needs))) (full-as (c .before .if1 .taken) (c .before .before .before .before .before .before .before .before .put-line .ensures)) (c .done2 .ensures)
+returns-2 c = last-full _ _ _ _ (c .before .before .before .before .before .before .before .before .before .before .before .before .before .before .loop .inv .0) (c .before .before .before .before .before .before .before .before .before .before .before .before .before .command-at .ensures) (c .before .before .before .before .before .before .before .before .before .before .before .before .step-of .ensures) (c .before .before .before .before .before .before .before .before .before .before .b .given .1) (full-as (c .before .if1 .taken) (c .before .before .before .before .before .before .put-last .ensures)) (c .done2 .ensures)
 
 add-done : tie.Need-add-done Inv-loop μ-loop
-add-done c = omega (arith, c .before .before .before .before .before .before .before .before .before .before .before .before .before .before .before .before .loop .inv .0 .short, inside-last _ _ _ _ _ (c .before .before .before .before .before .before .before .before .before .before .before .before .before .before .before .before .loop .inv .0) (c .before .before .before .before .before .before .before .before .before .before .before .before .before .before .before .command-at .ensures) (c .before .before .before .before .before .before .before .before .before .before .before .before .before .before .step-of .ensures) (search (c .before .before .before .before .before .before .before .before .before .before .before .before .enum-told3 .given, needs)), c .before .before .before .before .before .before .before .before .before .before .before .before .before .before .before .before .loop .inv .0 .low)
+add-done c = omega (arith, c .before .before .before .before .before .before .before .before .before .before .before .before .before .before .loop .inv .0 .short, inside-last _ _ _ _ (c .before .before .before .before .before .before .before .before .before .before .before .before .before .before .loop .inv .0) (c .before .before .before .before .before .before .before .before .before .before .before .before .before .command-at .ensures) (c .before .before .before .before .before .before .before .before .before .before .before .before .step-of .ensures) (c .before .before .before .before .before .before .before .before .before .before .b .given .1), c .before .before .before .before .before .before .before .before .before .before .before .before .before .before .loop .inv .0 .low)
 
 done-requires-3 : tie.Need-done-requires-3 Inv-loop μ-loop
 done-requires-3 c κs = search needs
 
 returns-3 : tie.Need-returns-3 Inv-loop μ-loop
-returns-3 c = going-last _ _ _ _ _ (c .before .before .before .before .before .before .before .before .before .before .before .before .before .before .before .before .before .loop .inv .0) (c .before .before .before .before .before .before .before .before .before .before .before .before .before .before .before .before .command-at .ensures) (c .before .before .before .before .before .before .before .before .before .before .before .before .before .before .before .step-of .ensures) (search (c .before .before .before .before .before .before .before .before .before .before .before .before .before .enum-told3 .given, needs)) (full-as (c .before .before .if1 .left) (c .before .before .before .before .before .before .before .before .before .put-line .ensures)) (c .done3 .ensures)
+returns-3 c = going-last _ _ _ _ (c .before .before .before .before .before .before .before .before .before .before .before .before .before .before .before .loop .inv .0) (c .before .before .before .before .before .before .before .before .before .before .before .before .before .before .command-at .ensures) (c .before .before .before .before .before .before .before .before .before .before .before .before .before .step-of .ensures) (c .before .before .before .before .before .before .before .before .before .before .before .b .given .1) (full-as (c .before .before .if1 .left) (c .before .before .before .before .before .before .before .put-last .ensures)) (c .done3 .ensures)
 
-enum-told-4 : tie.Need-enum-told-4 Inv-loop μ-loop
-enum-told-4 c = search needs
+enum-told-3 : tie.Need-enum-told-3 Inv-loop μ-loop
+enum-told-3 c = search needs
 
-put-line-requires-2 : tie.Need-put-line-requires-2 Inv-loop μ-loop
-put-line-requires-2 c κs = (c .before .before .before .before .before .before .before .before .before .before .before .before .before .before .before .before .before .before .pre .0, (c .before .before .before .before .before .before .before .before .before .before .before .before .before .before .before .before .before .before .pre .1 .0, (omega (arith, c .before .before .before .before .before .before .before .before .before .before .before .before .before .before .before .before .before .before .pre .1 .1 .0, c .before .before .before .before .before .before .before .loop .inv .1 .0), (omega (arith, c .before .before .before .before .before .before .before .before .before .before .before .before .before .before .before .before .before .before .pre .1 .1 .1, c .before .before .before .before .before .before .before .loop .inv .1 .1), (going-at _ _ _ _ _ (c .before .before .before .before .before .before .before .loop .inv .0), (omega (arith, c .before .before .before .before .before .before .before .loop .inv .0 .short, inside-line _ _ _ _ _ (c .before .before .before .before .before .before .before .loop .inv .0) (c .before .before .before .before .before .before .command-at .ensures) (c .before .before .before .before .before .step-of .ensures) (search (c .before .before .before .enum-told4 .given, needs))), omega (arith, c .before .before .before .before .before .before .before .loop .inv .0 .short, inside-line _ _ _ _ _ (c .before .before .before .before .before .before .before .loop .inv .0) (c .before .before .before .before .before .before .command-at .ensures) (c .before .before .before .before .before .step-of .ensures) (search (c .before .before .before .enum-told4 .given, needs)), c .before .before .before .before .before .before .before .loop .inv .0 .low)))))))
+put-line-requires : tie.Need-put-line-requires Inv-loop μ-loop
+put-line-requires c κs = (c .before .before .before .before .before .before .loop .inv .1 ∙ c .before .before .before .before .before .before .before .before .before .before .before .before .before .before .before .pre, (going-at _ _ _ _ (c .before .before .before .before .before .before .loop .inv .0), (omega (arith, c .before .before .before .before .before .before .loop .inv .0 .short, inside-line _ _ _ _ (c .before .before .before .before .before .before .loop .inv .0) (c .before .before .before .before .before .command-at .ensures) (c .before .before .before .before .step-of .ensures) (search (c .before .before .enum-told3 .given, needs))), omega (arith, c .before .before .before .before .before .before .loop .inv .0 .short, inside-line _ _ _ _ (c .before .before .before .before .before .before .loop .inv .0) (c .before .before .before .before .before .command-at .ensures) (c .before .before .before .before .step-of .ensures) (search (c .before .before .enum-told3 .given, needs)), c .before .before .before .before .before .before .loop .inv .0 .low))))
 
 done-requires-4 : tie.Need-done-requires-4 Inv-loop μ-loop
 done-requires-4 c κs = search needs
 
 returns-4 : tie.Need-returns-4 Inv-loop μ-loop
-returns-4 c = going-stuck _ _ _ _ _ (c .before .before .before .before .before .before .before .before .before .before .before .before .before .before .before .before .loop .inv .0) (c .before .before .before .before .before .before .before .before .before .before .before .before .before .before .before .command-at .ensures) (c .before .before .before .before .before .before .before .before .before .before .before .before .before .before .step-of .ensures) (inr (search (c .before .before .before .before .before .before .before .before .before .before .before .before .enum-told4 .given, needs))) (full-as (c .before .if2 .taken) (c .before .before .before .before .before .before .before .before .put-line2 .ensures)) (c .done4 .ensures)
+returns-4 c = line-full _ _ _ _ (c .before .before .before .before .before .before .before .before .before .before .before .before .before .loop .inv .0) (c .before .before .before .before .before .before .before .before .before .before .before .before .command-at .ensures) (c .before .before .before .before .before .before .before .before .before .before .before .step-of .ensures) (search (c .before .before .before .before .before .before .before .before .before .enum-told3 .given, needs)) (full-as (c .before .if2 .taken) (c .before .before .before .before .before .before .put-line .ensures)) (c .done4 .ensures)
 
 after-requires-2 : tie.Need-after-requires-2 Inv-loop μ-loop
-after-requires-2 c κs = (omega (arith, c .before .before .before .before .before .before .before .before .before .before .before .before .before .before .before .before .loop .inv .0 .short, inside-line _ _ _ _ _ (c .before .before .before .before .before .before .before .before .before .before .before .before .before .before .before .before .loop .inv .0) (c .before .before .before .before .before .before .before .before .before .before .before .before .before .before .before .command-at .ensures) (c .before .before .before .before .before .before .before .before .before .before .before .before .before .before .step-of .ensures) (search (c .before .before .before .before .before .before .before .before .before .before .before .before .enum-told4 .given, needs))), omega (arith, c .before .before .before .before .before .before .before .before .before .before .before .before .before .before .before .before .loop .inv .0 .short, inside-line _ _ _ _ _ (c .before .before .before .before .before .before .before .before .before .before .before .before .before .before .before .before .loop .inv .0) (c .before .before .before .before .before .before .before .before .before .before .before .before .before .before .before .command-at .ensures) (c .before .before .before .before .before .before .before .before .before .before .before .before .before .before .step-of .ensures) (search (c .before .before .before .before .before .before .before .before .before .before .before .before .enum-told4 .given, needs)), c .before .before .before .before .before .before .before .before .before .before .before .before .before .before .before .before .loop .inv .0 .low))
+after-requires-2 c κs = (omega (arith, c .before .before .before .before .before .before .before .before .before .before .before .before .loop .inv .0 .short, inside-line _ _ _ _ (c .before .before .before .before .before .before .before .before .before .before .before .before .loop .inv .0) (c .before .before .before .before .before .before .before .before .before .before .before .command-at .ensures) (c .before .before .before .before .before .before .before .before .before .before .step-of .ensures) (search (c .before .before .before .before .before .before .before .before .enum-told3 .given, needs))), omega (arith, c .before .before .before .before .before .before .before .before .before .before .before .before .loop .inv .0 .short, inside-line _ _ _ _ (c .before .before .before .before .before .before .before .before .before .before .before .before .loop .inv .0) (c .before .before .before .before .before .before .before .before .before .before .before .command-at .ensures) (c .before .before .before .before .before .before .before .before .before .before .step-of .ensures) (search (c .before .before .before .before .before .before .before .before .enum-told3 .given, needs)), c .before .before .before .before .before .before .before .before .before .before .before .before .loop .inv .0 .low))
 
 loop-less-2 : tie.Need-loop-less-2 Inv-loop μ-loop
-loop-less-2 c = less-line _ _ _ _ _ (c .before .before .before .before .before .before .before .before .before .before .before .before .before .before .before .before .before .loop .inv .0) (c .before .before .before .before .before .before .before .before .before .before .before .before .before .before .before .before .command-at .ensures) (c .before .before .before .before .before .before .before .before .before .before .before .before .before .before .before .step-of .ensures) (search (c .before .before .before .before .before .before .before .before .before .before .before .before .before .enum-told4 .given, needs)) (c .after2 .ensures)
+loop-less-2 c = less-line _ _ _ _ (c .before .before .before .before .before .before .before .before .before .before .before .before .before .loop .inv .0) (c .before .before .before .before .before .before .before .before .before .before .before .before .command-at .ensures) (c .before .before .before .before .before .before .before .before .before .before .before .step-of .ensures) (search (c .before .before .before .before .before .before .before .before .before .enum-told3 .given, needs)) (c .after2 .ensures)
 
 loop-again-2 : tie.Need-loop-again-2 Inv-loop μ-loop
-loop-again-2 c = (going-line _ _ _ _ _ (c .before .before .before .before .before .before .before .before .before .before .before .before .before .before .before .before .before .loop .inv .0) (c .before .before .before .before .before .before .before .before .before .before .before .before .before .before .before .before .command-at .ensures) (c .before .before .before .before .before .before .before .before .before .before .before .before .before .before .before .step-of .ensures) (c .after2 .ensures) (search (c .before .before .before .before .before .before .before .before .before .before .before .before .before .enum-told4 .given, needs)) (full-as (c .before .before .if2 .left) (c .before .before .before .before .before .before .before .before .before .put-line2 .ensures)), (omega (arith, c .before .before .before .before .before .before .before .before .before .before .before .before .before .before .before .before .before .loop .inv .1 .0), omega (arith, c .before .before .before .before .before .before .before .before .before .before .before .before .before .before .before .before .before .loop .inv .1 .1)))
+loop-again-2 c = (going-line _ _ _ _ (c .before .before .before .before .before .before .before .before .before .before .before .before .before .loop .inv .0) (c .before .before .before .before .before .before .before .before .before .before .before .before .command-at .ensures) (c .before .before .before .before .before .before .before .before .before .before .before .step-of .ensures) (c .after2 .ensures) (search (c .before .before .before .before .before .before .before .before .before .enum-told3 .given, needs)) (full-as (c .before .if2 .left) (c .before .before .before .before .before .before .put-line .ensures)), omega (arith, c .before .before .before .before .before .before .before .before .before .before .before .before .before .loop .inv .1))
 
 same-length : tie.Need-same-length Inv-loop μ-loop
-same-length c = c .before .before .before .before .before .loop .inv .1 .0
+same-length c = c .before .before .before .before .before .loop .inv .1
 
 same-length-2 : tie.Need-same-length-2 Inv-loop μ-loop
-same-length-2 c = c .before .before .before .before .before .loop .inv .1 .1
+same-length-2 c = going-length _ _ _ _ (c .before .before .before .before .before .loop .inv .0)
 
 same-length-3 : tie.Need-same-length-3 Inv-loop μ-loop
-same-length-3 c = going-length _ _ _ _ _ (c .before .before .before .before .before .loop .inv .0)
+same-length-3 c = omega (arith, c .before .before .before .before .before .before .before .before .before .before .before .before .before .before .loop .inv .1)
 
 same-length-4 : tie.Need-same-length-4 Inv-loop μ-loop
-same-length-4 c = omega (arith, c .before .before .before .before .before .before .before .before .before .before .before .before .before .before .before .before .loop .inv .1 .0)
+same-length-4 c = put-length _ _ _ _ _ _ (c .before .before .before .before .before .before .before .before .before .before .before .before .before .before .loop .inv .0) (c .before .before .before .before .before .before .put-last .ensures)
 
 same-length-5 : tie.Need-same-length-5 Inv-loop μ-loop
-same-length-5 c = omega (arith, c .before .before .before .before .before .before .before .before .before .before .before .before .before .before .before .before .loop .inv .1 .1)
+same-length-5 c = omega (arith, c .before .before .before .before .before .before .before .before .before .before .before .before .before .before .before .loop .inv .1)
 
 same-length-6 : tie.Need-same-length-6 Inv-loop μ-loop
-same-length-6 c = put-length _ _ _ _ _ _ _ (c .before .before .before .before .before .before .before .before .before .before .before .before .before .before .before .before .loop .inv .0) (c .before .before .before .before .before .before .before .before .put-line .ensures)
+same-length-6 c = put-length _ _ _ _ _ _ (c .before .before .before .before .before .before .before .before .before .before .before .before .before .before .before .loop .inv .0) (c .before .before .before .before .before .before .before .put-last .ensures)
 
 same-length-7 : tie.Need-same-length-7 Inv-loop μ-loop
-same-length-7 c = omega (arith, c .before .before .before .before .before .before .before .before .before .before .before .before .before .before .before .before .before .loop .inv .1 .0)
+same-length-7 c = omega (arith, c .before .before .before .before .before .before .before .before .before .before .before .before .before .loop .inv .1)
 
 same-length-8 : tie.Need-same-length-8 Inv-loop μ-loop
-same-length-8 c = omega (arith, c .before .before .before .before .before .before .before .before .before .before .before .before .before .before .before .before .before .loop .inv .1 .1)
-
-same-length-9 : tie.Need-same-length-9 Inv-loop μ-loop
-same-length-9 c = put-length _ _ _ _ _ _ _ (c .before .before .before .before .before .before .before .before .before .before .before .before .before .before .before .before .before .loop .inv .0) (c .before .before .before .before .before .before .before .before .before .put-line .ensures)
-
-same-length-10 : tie.Need-same-length-10 Inv-loop μ-loop
-same-length-10 c = omega (arith, c .before .before .before .before .before .before .before .before .before .before .before .before .before .before .before .before .loop .inv .1 .0)
-
-same-length-11 : tie.Need-same-length-11 Inv-loop μ-loop
-same-length-11 c = omega (arith, c .before .before .before .before .before .before .before .before .before .before .before .before .before .before .before .before .loop .inv .1 .1)
-
-same-length-12 : tie.Need-same-length-12 Inv-loop μ-loop
-same-length-12 c = put-length _ _ _ _ _ _ _ (c .before .before .before .before .before .before .before .before .before .before .before .before .before .before .before .before .loop .inv .0) (c .before .before .before .before .before .before .before .before .put-line2 .ensures)
+same-length-8 c = put-length _ _ _ _ _ _ (c .before .before .before .before .before .before .before .before .before .before .before .before .before .loop .inv .0) (c .before .before .before .before .before .before .put-line .ensures)
 
 pub put-lines-spec : {M : Type 1} → statement M
 put-lines-spec =
@@ -146,7 +123,6 @@ put-lines-spec =
     (tie.spec
     Inv-loop
     μ-loop
-    start-requires
     first-state-requires
     loop-holds
     command-at-requires
@@ -155,31 +131,27 @@ put-lines-spec =
     done-requires
     same-length
     same-length-2
-    same-length-3
     returns
     enum-told-2
     after-requires
     loop-less
     loop-again
-    enum-told-3
-    put-line-requires
+    enum-known-b
+    put-last-requires
     done-requires-2
+    same-length-3
     same-length-4
-    same-length-5
-    same-length-6
     returns-2
     add-done
     done-requires-3
+    same-length-5
+    same-length-6
+    returns-3
+    enum-told-3
+    put-line-requires
+    done-requires-4
     same-length-7
     same-length-8
-    same-length-9
-    returns-3
-    enum-told-4
-    put-line-requires-2
-    done-requires-4
-    same-length-10
-    same-length-11
-    same-length-12
     returns-4
     after-requires-2
     loop-less-2
