@@ -1,4 +1,5 @@
-// Streams checked once: a check of both streams that fills a buffer of the caller's, and the four calls over what it left there. The calls take any numbers.
+// Streams checked once: a check of both streams that fills a buffer of the caller's, and the four calls and the sheet over what it left there. They take any
+// numbers.
 ghost use mathlib.Core.Path.{_≡_};
 ghost use mathlib.Core.List.{_++_};
 ghost use Prim.Native.Nat.{_-_, _/_, _≤_, min};
@@ -8,6 +9,8 @@ ghost use Rattle.rules.specs.Call.{functionOutcome, idOutcome, typeOutcome, siz
 ghost use Rattle.checked_calls.specs.Answers.{given, laid};
 ghost use Rattle.checked_calls.specs.Checks.{functionOver, idOver, typeOver, sizeOver, ofSizeAnswer};
 ghost use Rattle.checked_calls.specs.Kept.{KeptOf, Kept, keptIn, recordCount, placesFor, serving, Filled};
+ghost use Rattle.sheet.specs.Sheet.{sheetFit, fitOver};
+ghost use Rattle.sheet.specs.Printed.{shown, laidOut, ContinuesOver};
 use checked_calls::answer::Answer;
 use checked_calls::calls::SizeAnswer;
 use checked_calls::calls::function_over;
@@ -17,6 +20,8 @@ use checked_calls::calls::type_over;
 use checked_calls::kept::keep_both;
 use codeview::index::IdIndex;
 use codeview::index::TypeIndex;
+use sheet::Printed;
+use sheet::print_over;
 use streams::places::least;
 use streams::places::wide;
 use streams::stream::Head;
@@ -201,5 +206,29 @@ pub fn get_type_size(types: &[u8], checked: &[u32], size: u32, index: TypeIndex)
         places_behind(checked),
         size,
         index,
+    )
+}
+
+// A sheet's lines behind the first `skip` of them, as far as whole lines fit.
+pub fn print_sheet(
+    types: &[u8],
+    ids: &[u8],
+    checked: &[u32],
+    sheet: &[u8],
+    out: &mut [u8],
+    skip: usize,
+) -> Printed
+    ensures { λ r. ⌜ shown (now (out .exit)) r ≡ laidOut (now (out .entry)) (fitOver (now (types .entry)) (now (ids .entry)) (keptIn (now (checked .entry))) (now (sheet .entry)) skip (length (now (out .entry)))) ⌝ }
+    ensures { λ r. ⌜ (Kept (now (types .entry)) (now (ids .entry)) (keptIn (now (checked .entry))) → shown (now (out .exit)) r ≡ laidOut (now (out .entry)) (sheetFit (now (types .entry)) (now (ids .entry)) (now (sheet .entry)) skip (length (now (out .entry))))) ⌝ }
+    ensures { λ _. ⌜ ContinuesOver (now (types .entry)) (now (ids .entry)) (keptIn (now (checked .entry))) (now (sheet .entry)) skip (length (now (out .entry))) ⌝ }
+{
+    print_over(
+        types,
+        ids,
+        numbers_of(checked),
+        places_behind(checked),
+        sheet,
+        out,
+        skip,
     )
 }
