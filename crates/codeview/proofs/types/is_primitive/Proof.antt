@@ -1,12 +1,13 @@
 -- The indirection's bound, then whether the low byte is listed.
 -- Assumes nothing.
+use Prim.Native.Nat.{_/_}
 use borrow.Author.Tests.{le-leb, lt-leb}
 use borrow.Author.Needs.{needs}
 use Rattle.codeview.proofs.types.is_primitive.Statement.{statement}
 use Rattle.codeview.proofs.types.is_primitive.Tie as tie
 
 returns : tie.Need-returns
-returns c = rw (lt-leb _ _ (c .if1 .taken))
+returns c = rw (lt-leb (c .before .args .index / 256) 7 (c .if1 .taken))
 
 cast-is-listed : tie.Need-cast-is-listed
 cast-is-listed c = search needs
