@@ -28,9 +28,9 @@ abbrev pub keptIn : List ℕ → Near
 keptIn checked = near (take 19 checked) (drop 19 checked)
 
 -- How many numbers of a buffer serve for two streams with a stride: the 19, and a place for every `stride`-th record of each. A stream without a header has no
--- record, one has no more than fit, with four bytes for each, and a stride of 0 asks for no place.
+-- record, one has no more than a fourth of its bytes, since a record has four at least, and a stride of 0 asks for no place.
 unfoldable pub recordCount : List ℕ → ℕ
-recordCount s = header s (λ first end stop. min (end - first) ((stop - 56) / 4)) 0
+recordCount s = header s (λ first end stop. min (end - first) (stop / 4)) 0
 
 unfoldable pub placesFor : ℕ → ℕ → ℕ
 placesFor stride n = (n + (stride - 1)) / stride

@@ -119,9 +119,3 @@ noDimensions = record { items = replicate 32 0; left = 32 }
 -- One level of an array more, with these bytes.
 unfoldable pub pushedDimension : Dimensions → ℕ → Dimensions
 pushedDimension o bytes = record { items = set (o .items) (o .left - 1) bytes; left = o .left - 1 }
-
--- What a function that gives levels of an array says: the same as of pointer levels.
-pub record AreSizes (r whole : Dimensions) (begin : ℕ) (list : List ℕ) : Type 0 where
-  pub is : r ≡ whole
-  pub left : r .left ≡ begin
-  pub sizes : sizesOf r ≡ list

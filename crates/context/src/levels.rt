@@ -4,7 +4,6 @@ ghost use mathlib.Core.List.{[], _∷_};
 ghost use Prim.Native.Nat.{_-_, _≤_, _<_};
 ghost use Rattle.rules.specs.Text.{overPointee};
 ghost use Rattle.context.specs.Context.{flagsByte, modeByte, modeAt, levelByte, levelOf, levelAt, levelsOf, noLevels, pushedLevel, overLevels, AreLevels};
-ghost use Rattle.context.specs.Context.{sizesOf, noDimensions, pushedDimension, AreSizes};
 use codeview::record::PointerMode;
 
 pub struct PtrAttributes {
@@ -124,30 +123,4 @@ pub fn over_pointee(o: Levels, constant: bool) -> Levels
         return Levels { items: a, left: at };
     }
     Levels { items: a, left: at }
-}
-
-pub fn no_dimensions() -> Dimensions
-    ensures { λ r. ⌜ AreSizes r noDimensions 32 [] ⌝ }
-{
-    Dimensions {
-        items: [0; 32],
-        left: 32,
-    }
-}
-
-pub fn push_dimension(o: Dimensions, bytes: u64) -> Dimensions
-    requires { ⌜ (0 < o .left) × (o .left ≤ 32) ⌝ }
-    ensures { λ r. ⌜ AreSizes r (pushedDimension o bytes) (o .left - 1) (bytes ∷ sizesOf o) ⌝ }
-{
-    let at = o.left - 1;
-    let mut a = o.items;
-    a[at] = bytes;
-    Dimensions { items: a, left: at }
-}
-
-// How many levels more may follow.
-pub fn room(o: Dimensions) -> usize
-    ensures { λ r. ⌜ r ≡ o .left ⌝ }
-{
-    o.left
 }

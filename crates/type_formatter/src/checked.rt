@@ -28,12 +28,12 @@ use streams::stream::Head;
 use streams::stream::header_of;
 use streams::stream::shorter;
 
-// How many records a stream has by its header: no more than fit, so that a header that lies asks for no long buffer.
+// How many records a stream has by its header, and no more than a fourth of its bytes: a header that lies asks for no long buffer.
 fn record_count(s: &[u8]) -> u32
     ensures { λ r. ⌜ r ≡ recordCount (now (s .entry)) ⌝ }
 {
     match header_of(s) {
-        Head::Good(first, end, stop) => least(end - first, ((stop - 56) / 4) as u32),
+        Head::Good(first, end, stop) => least(end - first, (stop / 4) as u32),
         Head::Broken => 0,
     }
 }
