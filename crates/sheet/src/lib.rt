@@ -277,7 +277,11 @@ fn put_last(line: &mut [u8], out: &mut [u8], at: usize, lines: usize, byte: u8, 
     if lines < skip {
         return Put { at, full: false };
     }
-    let n = refused_line(line, (lines + 1) as u64, Refusal::UnknownCommand(byte as u32));
+    let n = refused_line(
+        line,
+        (lines + 1) as u64,
+        Refusal::UnknownCommand(byte as u32),
+    );
     put_bytes(out, at, name_of(line, n))
 }
 

@@ -14,6 +14,7 @@ use crate::places::stride_for;
 use crate::places::wide;
 use crate::refusal::StreamKind;
 use crate::short::before;
+use crate::short::near_heads;
 use crate::short::short_chains;
 use crate::stream::Head;
 use crate::stream::Place;
@@ -402,9 +403,20 @@ fn guess(s: &[u8], from: usize) -> usize
     s.len()
 }
 
+// A guess that costs little where there are few records, and is seldom wrong where there are many.
+fn guess_by(s: &[u8], count: u32, from: usize) -> usize
+    requires { ⌜ (length (now s) < 0x1000_0000) × (4 ≤ length (now s)) × (from < 0x1000_0000) ⌝ }
+    ensures { λ r. ⌜ r ≤ length (now (s .entry)) ⌝ }
+{
+    if count < 4096 {
+        return near_heads(s, from);
+    }
+    guess(s, from)
+}
+
 // Four chains from the start and three guesses.
 fn four_chains(s: &[u8], count: u32, places: &mut [u32]) -> Chains
-    requires { ⌜ length (now s) < 0x1_0000_0000 ⌝ }
+    requires { ⌜ length (now s) < 0x1000_0000 ⌝ }
     ensures { λ r. ⌜ ChainedFor (now (s .entry)) count (now (places .entry)) (now (places .exit)) r ⌝ }
 {
     let room = entries(places.len()) / 4;
@@ -414,10 +426,10 @@ fn four_chains(s: &[u8], count: u32, places: &mut [u32]) -> Chains
     if s.len() < 56 {
         return Chains::Apart;
     }
-    let part = (s.len() - 56) / 4;
-    let x = guess(s, 56 + part);
-    let y = guess(s, 56 + 2 * part);
-    let z = guess(s, 56 + 3 * part);
+    let part = (s.len() - 56) / 16 * 4;
+    let x = guess_by(s, count, 56 + part);
+    let y = guess_by(s, count, 56 + 2 * part);
+    let z = guess_by(s, count, 56 + 3 * part);
     let stride = stride_for(count, 2 * wide(room));
     chained(s, count, stride, room, x, y, z, places)
 }

@@ -158,8 +158,9 @@ fn two_heads(s: &[u8], at: usize) -> bool
 }
 
 // A place where two likely heads follow each other, not far behind another; 0 where there is none. Records mostly start at a multiple of four.
-fn near_heads(s: &[u8], from: usize) -> usize
+pub fn near_heads(s: &[u8], from: usize) -> usize
     requires { ⌜ (length (now s) < 0x1000_0000) × (4 ≤ length (now s)) × (from < 0x1000_0000) ⌝ }
+    ensures { λ r. ⌜ r ≤ length (now (s .entry)) ⌝ }
 {
     let until = shorter(from + 384, s.len() - 4);
     let mut at = from;

@@ -28,7 +28,7 @@ two-heads-requires : tie.Need-two-heads-requires Inv-loop μ-loop
 two-heads-requires c κs = omega (arith, c .loop-test .taken, c .before .before .shorter .ensures, c .before .before .before .before .pre .1)
 
 returns : tie.Need-returns Inv-loop μ-loop
-returns c = search needs
+returns c = omega (arith, c .before .before .loop-test .taken, c .before .before .before .before .shorter .ensures, c .before .before .before .before .before .before .pre .1)
 
 add-at : tie.Need-add-at Inv-loop μ-loop
 add-at c = omega (arith, c .before .before .loop-test .taken, c .before .before .before .before .shorter .ensures, c .before .before .before .before .before .before .pre .0, c .before .before .before .before .before .before .pre .1)
@@ -40,7 +40,7 @@ loop-again : tie.Need-loop-again Inv-loop μ-loop
 loop-again c = omega arith
 
 returns-2 : tie.Need-returns-2 Inv-loop μ-loop
-returns-2 c = search needs
+returns-2 c = omega arith
 
 pub near-heads-spec : {M : Type 1} → statement M
 near-heads-spec =
