@@ -2,16 +2,16 @@
  *
  *     checked TYPES IDS ..
  *
- * For each pair of files, and for damaged copies of them: over what yokberd_check_streams noted the calls answer as the plain ones do, buffers too; numbers
- * that were never filled are refused; any numbers end in an answer. Prints how many calls were compared and how many had any numbers. The status is 1 where
- * something differs. */
+ * For each pair of files, and for damaged copies of them: over what yokberd_check_streams noted the calls and the sheet answer as the plain ones do, buffers
+ * too; numbers that were never filled are refused; any numbers end in an answer. Prints how many calls were compared and how many had any numbers. The status
+ * is 1 where something differs. */
 #include <stdio.h>
 #include <stdlib.h>
 #include <string.h>
 
 #include "yokberd.h"
 
-enum { ROOM = 600, HEADER = 56, SETTINGS = 6 };
+enum { ROOM = 600, HEADER = 56, SETTINGS = 6, COMMANDS = 60, PAGE = 9000 };
 
 struct bytes {
     uint8_t *at;
@@ -160,6 +160,79 @@ static long compared(struct bytes types, struct bytes ids, const struct numbers 
     return calls;
 }
 
+/* What a sheet call leaves: whether lines are left, how many bytes and lines it printed, and the page. */
+struct page {
+    uint32_t left;
+    size_t bytes, lines;
+    uint8_t out[PAGE];
+};
+
+/* A sheet of commands of all kinds, over indexes of the streams and others; some end in an unknown or cut command. */
+static struct bytes some_sheet(struct bytes types, struct bytes ids) {
+    struct bytes sheet = {room_for(COMMANDS * 21), 0};
+    for (int i = 0; i < COMMANDS; i++) {
+        static const uint8_t kinds[] = {0x01, 0x02, 0x10, 0x11, 0x12, 0x13, 0x10, 0x12};
+        uint8_t kind = below(80) == 0 ? (uint8_t)rnd() : kinds[below(8)], *at = sheet.at + sheet.len;
+        struct bytes stream = kind == 0x12 ? ids : types;
+        uint32_t n = kind == 0x01 ? flags_of[below(SETTINGS)] : kind == 0x02 ? size_of[below(SETTINGS)] : some_index(stream, below(index_count(stream)));
+        memset(at, 0, 21);
+        at[0] = kind;
+        for (int b = 0; b < 4; b++)
+            at[1 + b] = (uint8_t)(n >> 8 * b);
+        if (kind == 0x13)
+            memcpy(at + 5, "step", 4);
+        sheet.len += kind == 0x02 ? 2 : kind == 0x13 ? 21 : 5;
+    }
+    sheet.len -= below(4) == 0 ? below(5) : 0;
+    return sheet;
+}
+
+/* The lines behind the first skip in so much room; plain where there are no numbers. */
+static void print(struct page *p, struct bytes types, struct bytes ids, const struct numbers *n, struct bytes sheet, size_t room, size_t skip) {
+    memset(p->out, 0xaa, PAGE);
+    p->bytes = p->lines = 7;
+    p->left = n == NULL ? yokberd_print_sheet(types.at, types.len, ids.at, ids.len, sheet.at, sheet.len, p->out, room, skip, &p->bytes, &p->lines)
+                        : yokberd_checked_print_sheet(types.at, types.len, ids.at, ids.len, n->at, n->len, sheet.at, sheet.len, p->out, room, skip,
+                                                      &p->bytes, &p->lines);
+}
+
+/* A sheet over the numbers, part by part, compared with the plain one over streams: how many parts, or -1. */
+static long printed(struct bytes types, struct bytes ids, const struct numbers *n, struct bytes plain_types) {
+    static struct page got, expected;
+    struct bytes sheet = some_sheet(types, ids);
+    long parts = 0;
+    size_t skip = 0;
+    do {
+        size_t room = below(3) == 0 ? YOKBERD_LINE : PAGE;
+        print(&got, types, ids, n, sheet, room, skip);
+        print(&expected, plain_types, ids, NULL, sheet, room, skip);
+        int equal = got.left == expected.left && got.bytes == expected.bytes && got.lines == expected.lines && memcmp(got.out, expected.out, PAGE) == 0;
+        skip += got.lines;
+        parts = equal ? parts + 1 : -1;
+    } while (parts > 0 && got.left);
+    if (parts < 0)
+        fprintf(stderr, "checked: a sheet over %zu numbers differs behind line %zu\n", n->len, skip);
+    free(sheet.at);
+    return parts;
+}
+
+/* A sheet over any numbers ends, and writes whole lines and nothing behind them. */
+static int ends(struct bytes types, struct bytes ids, const struct numbers *n) {
+    static struct page p;
+    struct bytes sheet = some_sheet(types, ids);
+    size_t skip = 0;
+    int good = 1;
+    do {
+        print(&p, types, ids, n, sheet, YOKBERD_LINE, skip);
+        good = p.left <= 1 && p.bytes <= YOKBERD_LINE && (!p.left || p.lines > 0) && (p.bytes == 0 || p.out[p.bytes - 1] == '\n');
+        for (size_t i = good ? p.bytes : PAGE; i < PAGE; i++)
+            good = good && p.out[i] == 0xaa;
+        skip += p.lines;
+    } while (good && p.left);
+    free(sheet.at);
+    return good;
+}
+
 /* By several strides, with as many numbers as serve, fewer and more; and with numbers that were never filled. */
 static long compare(struct bytes types, struct bytes ids) {
     static const uint32_t strides[] = {8, 1, 0, 64};
@@ -170,11 +243,11 @@ static long compare(struct bytes types, struct bytes ids) {
         size_t lengths[] = {serving, YOKBERD_CHECKED, (serving + YOKBERD_CHECKED) / 2, serving + 9};
         for (int j = 0; j < 4; j++) {
             struct numbers n = noted(types, ids, strides[i], lengths[j] < YOKBERD_CHECKED ? YOKBERD_CHECKED : lengths[j]);
-            long more = compared(types, ids, &n, types, j == 0 ? 1 : 5);
+            long more = compared(types, ids, &n, types, j == 0 ? 1 : 5), parts = printed(types, ids, &n, types);
             free(n.at);
-            if (more < 0)
+            if (more < 0 || parts < 0)
                 return -1;
-            calls += more;
+            calls += more + parts;
         }
     }
     /* an unfilled or short array is as a type stream of no bytes */
@@ -182,10 +255,10 @@ static long compare(struct bytes types, struct bytes ids) {
     struct numbers zeros = {calloc(100, sizeof(uint32_t)), 100}, brief = noted(types, ids, 8, YOKBERD_CHECKED - 1);
     if (zeros.at == NULL)
         return -1;
-    long more = compared(types, ids, &zeros, none, 3), still = compared(types, ids, &brief, none, 3);
+    long more = compared(types, ids, &zeros, none, 3), still = compared(types, ids, &brief, none, 3), parts = printed(types, ids, &zeros, none);
     free(zeros.at);
     free(brief.at);
-    return more < 0 || still < 0 ? -1 : calls + more + still;
+    return more < 0 || still < 0 || parts < 0 ? -1 : calls + more + still + parts;
 }
 
 /* Any numbers: every call ends, and writes a text and nothing behind it, or zeros. */
@@ -198,8 +271,8 @@ static long any_numbers(struct bytes types, struct bytes ids) {
         if (below(one_in) == 0)
             n.at[i] = below(3) == 0 ? rnd() : below(2) ? below((uint32_t)types.len + 3) : (uint32_t[]){0, 1, 56, 0x1000, 0x80000000, 0xffffffff}[below(6)];
     n.len -= below(4) == 0 ? below((uint32_t)n.len) : 0;
-    long calls = 0;
-    int good = 1;
+    long calls = 1;
+    int good = ends(types, ids, &n);
     for (int call = 0; call < CALLS; call++)
         for (uint32_t at = 0; at < index_count(call == ID ? ids : types); at += 3) {
             int s = (int)below(SETTINGS);

@@ -96,8 +96,8 @@ uint32_t yokberd_get_type_size(const uint8_t *types, size_t types_len, uint32_t 
 
 /* Streams checked once, for many calls over the same bytes.
  *
- * yokberd_check_streams checks both streams in one pass over their records, and notes in checked what the four calls below it go by: the bounds of both
- * streams, and the places of records from which a look-up starts. Where a program has no ids, lend no bytes of them.
+ * yokberd_check_streams checks both streams in one pass over their records, and notes in checked what the four calls below it and
+ * yokberd_checked_print_sheet go by: the bounds of both streams, and the places of records from which a look-up starts. Where a program has no ids, lend no bytes of them.
  *
  *   stride          how many records apart the noted places are: 8 serves best. 0: as near as there are numbers for
  *   checked         the numbers to fill: YOKBERD_CHECKED at least, and one for each place
@@ -106,7 +106,7 @@ uint32_t yokberd_get_type_size(const uint8_t *types, size_t types_len, uint32_t 
  * With fewer every answer is the same, and takes longer. The answer goes by the headers alone: one that says more records than its bytes can hold, of a stream
  * that is refused, makes it large. More than YOKBERD_CHECKED + 2 + (types_len + ids_len) / 4 / stride numbers are never of use.
  *
- * Over what yokberd_check_streams left in checked for the same bytes, the four calls answer what the plain calls answer, and leave out as they do: a stream
+ * Over what yokberd_check_streams left in checked for the same bytes, these calls answer what the plain calls answer, and leave out as they do: a stream
  * that was refused is refused by each call. So keep checked beside the bytes, and check again where these change.
  *
  * They are safe with any other numbers too. Whatever checked holds, a call ends, reads and writes nothing but what it is lent, and is accepted or refused
@@ -150,6 +150,12 @@ uint32_t yokberd_checked_get_type_size(const uint8_t *types, size_t types_len, c
 #define YOKBERD_LINE 4150
 uint32_t yokberd_print_sheet(const uint8_t *types, size_t types_len, const uint8_t *ids, size_t ids_len, const uint8_t *sheet, size_t sheet_len,
                              uint8_t *out, size_t out_len, size_t skip, size_t *bytes, size_t *lines);
+
+/* The same over streams that were checked before, by the numbers that yokberd_check_streams left: for a sheet that is printed in parts, and for many sheets.
+ * Any other numbers are as safe as with the calls above; each line then says what its call answers by them. */
+uint32_t yokberd_checked_print_sheet(const uint8_t *types, size_t types_len, const uint8_t *ids, size_t ids_len, const uint32_t *checked,
+                                     size_t checked_len, const uint8_t *sheet, size_t sheet_len, uint8_t *out, size_t out_len, size_t skip,
+                                     size_t *bytes, size_t *lines);
 
 #ifdef __cplusplus
 }

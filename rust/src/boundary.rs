@@ -83,11 +83,13 @@ mod library {
             detail: *mut u32,
             size: *mut u64,
         ) -> u32;
-        pub fn yokberd_print_sheet(
+        pub fn yokberd_checked_print_sheet(
             types: *const u8,
             types_len: usize,
             ids: *const u8,
             ids_len: usize,
+            checked: *const u32,
+            checked_len: usize,
             sheet: *const u8,
             sheet_len: usize,
             out: *mut u8,
@@ -106,7 +108,7 @@ fn answer<T>(number: u32, detail: u32, value: T) -> Result<T, Error> {
     Err(Error::from_refusal(number, detail).expect("the library refuses by the numbers of its table"))
 }
 
-/// Checks both streams, and notes in `checked` what the four calls below go by. Gives how many numbers of it serve; where it has fewer, look-ups take longer.
+/// Checks both streams, and notes in `checked` what the five calls below go by. Gives how many numbers of it serve; where it has fewer, look-ups take longer.
 pub fn check_streams(types: &[u8], ids: &[u8], stride: u32, checked: &mut [u32]) -> usize {
     // SAFETY: the pointers and lengths are those of slices that live through the call, and `checked` is lent to it alone.
     unsafe { library::yokberd_check_streams(types.as_ptr(), types.len(), ids.as_ptr(), ids.len(), stride, checked.as_mut_ptr(), checked.len()) }
@@ -193,15 +195,17 @@ pub fn get_type_size(types: &[u8], checked: &[u32], pointer_size: u32, index: u3
 }
 
 /// The lines of a sheet behind the first `skip`, as far as whole lines fit.
-pub fn print_sheet(types: &[u8], ids: &[u8], sheet: &[u8], out: &mut [u8], skip: usize) -> Printed {
+pub fn print_sheet(types: &[u8], ids: &[u8], checked: &[u32], sheet: &[u8], out: &mut [u8], skip: usize) -> Printed {
     let (mut bytes, mut lines) = (0, 0);
     // SAFETY: as in `format_function`.
     let left = unsafe {
-        library::yokberd_print_sheet(
+        library::yokberd_checked_print_sheet(
             types.as_ptr(),
             types.len(),
             ids.as_ptr(),
             ids.len(),
+            checked.as_ptr(),
+            checked.len(),
             sheet.as_ptr(),
             sheet.len(),
             out.as_mut_ptr(),

@@ -158,7 +158,7 @@ impl<'a> TypeFormatter<'a> {
         sheet
     }
 
-    /// Answers a sheet: many calls in one, with each stream checked once. Gives all lines. Flags and pointer size are those that the sheet sets, and its
+    /// Answers a sheet: many calls in one. Gives all lines. Flags and pointer size are those that the sheet sets, and its
     /// texts have at most 4,096 bytes.
     pub fn sheet_lines(&self, sheet: &Sheet) -> Vec<u8> {
         let mut page = vec![0; PAGE];
@@ -177,7 +177,7 @@ impl<'a> TypeFormatter<'a> {
     /// [`sheet_lines`](Self::sheet_lines) into the start of a buffer: as many whole lines behind the first `skip` as fit. Where there are more, ask again
     /// with as many more to skip as lines were printed. A buffer of 4,150 bytes takes any one line. The bytes behind the lines stay as they were.
     pub fn print_sheet(&self, sheet: &Sheet, out: &mut [u8], skip: usize) -> Printed {
-        boundary::print_sheet(self.types, self.ids, sheet.as_bytes(), out, skip)
+        boundary::print_sheet(self.types, self.ids, &self.checked, sheet.as_bytes(), out, skip)
     }
 
     // What is made of a text, which is written into a buffer that is long enough for it, up to the limit.

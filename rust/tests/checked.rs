@@ -3,7 +3,7 @@ mod common;
 
 use common::library::{Number, Plain};
 use common::{all_calls, case_count, damage, hostile_streams, real_streams, settings, Call, Rng, Streams};
-use yokberd::{Error, StreamKind, TypeFormatter, TypeFormatterFlags};
+use yokberd::{Error, Sheet, StreamKind, TypeFormatter, TypeFormatterFlags};
 
 const ROOM: usize = 4096;
 
@@ -199,6 +199,97 @@ fn numbers_of_other_streams() {
         let checked = plain(one, 0, 8).checked(8);
         for call in all_calls(&mut rng, other) {
             let _ = asked(|out| plain(other, 0, 8).ask_checked(&checked, call, out), ROOM);
+        }
+    }
+}
+
+// A sheet of all calls over streams, with settings between them, some of which are refused.
+fn some_sheet(rng: &mut Rng, streams: &Streams) -> Sheet {
+    let mut sheet = Sheet::new();
+    for call in all_calls(rng, streams) {
+        let (flags, pointer_size) = settings(rng);
+        if rng.one_in(9) {
+            sheet.flags(flags);
+        }
+        if rng.one_in(9) {
+            sheet.pointer_size(if rng.one_in(4) { 3 } else { pointer_size });
+        }
+        call.add_to(&mut sheet);
+    }
+    sheet
+}
+
+// Its bytes, which may go on with an unknown or cut command.
+fn some_bytes(rng: &mut Rng, sheet: &Sheet) -> Vec<u8> {
+    let mut bytes = sheet.as_bytes().to_vec();
+    if rng.one_in(2) {
+        bytes.push(rng.next() as u8);
+    }
+    bytes
+}
+
+// The parts of a sheet in so much room, each with its whole page; where a line has no room, those before it.
+fn parts(print: impl Fn(&mut [u8], usize) -> (bool, usize, usize), room: usize) -> Vec<((bool, usize, usize), Vec<u8>)> {
+    let mut parts: Vec<((bool, usize, usize), Vec<u8>)> = Vec::new();
+    let mut skip = 0;
+    loop {
+        let mut page = vec![0xaa; room];
+        let told = print(&mut page, skip);
+        skip += told.2;
+        parts.push((told, page));
+        if !told.0 || told.2 == 0 {
+            return parts;
+        }
+    }
+}
+
+// Sheets over what several checks noted are the plain ones, part by part, and so are those of a formatter.
+#[test]
+fn sheets() {
+    let mut rng = Rng(0x12_13);
+    for case in 0..case_count(40) {
+        let mut streams = if case < 5 { real_streams().remove(case) } else { hostile_streams(&mut rng, case) };
+        if case % 3 == 2 {
+            damage(&mut rng, &mut streams.types);
+        }
+        let plain = plain(&streams, 0, 8);
+        let built = some_sheet(&mut rng, &streams);
+        let formatter = TypeFormatter::new_from_parts(&streams.types, &streams.ids, 8, TypeFormatterFlags::empty());
+        let mut page = vec![0; 1 << 22];
+        let (more, bytes, _) = plain.print(built.as_bytes(), &mut page, 0);
+        assert!(!more && formatter.sheet_lines(&built) == page[..bytes], "{}: a sheet by a formatter", streams.name);
+        let sheet = some_bytes(&mut rng, &built);
+        for room in [0, 100, 4150, 1 << 16] {
+            let expected = parts(|page, skip| plain.print(&sheet, page, skip), room);
+            for stride in [0, 1, 8, 1000] {
+                let mut checked = plain.checked(stride);
+                checked.truncate(checked.len().max(19) - rng.below(checked.len() - 18));
+                plain.check(stride, &mut checked);
+                let got = parts(|page, skip| plain.print_checked(&checked, &sheet, page, skip), room);
+                assert!(got == expected, "{}: a sheet in {room} bytes over {} numbers", streams.name, checked.len());
+            }
+        }
+    }
+}
+
+// Over any numbers a sheet ends, and writes whole lines and nothing behind them; over zeros it is that of no types.
+#[test]
+fn sheets_over_any_numbers() {
+    let mut rng = Rng(0x13_14);
+    for case in 0..case_count(100) {
+        let streams = if case % 4 == 0 { real_streams().remove(rng.below(5)) } else { hostile_streams(&mut rng, case) };
+        let plain = plain(&streams, 0, 8);
+        let built = some_sheet(&mut rng, &streams);
+        let sheet = some_bytes(&mut rng, &built);
+        let none = Plain { types: &[], ..plain };
+        let expected = parts(|page, skip| none.print(&sheet, page, skip), 4150);
+        assert!(parts(|page, skip| plain.print_checked(&[0; 30], &sheet, page, skip), 4150) == expected, "{}: a sheet over zeros", streams.name);
+        let mut checked = plain.checked(rng.pick(&[0, 1, 8, 64]));
+        spoil(&mut rng, &mut checked, &streams);
+        for ((more, bytes, lines), page) in parts(|page, skip| plain.print_checked(&checked, &sheet, page, skip), 4150) {
+            assert!(!more || lines > 0, "a part of no lines, with lines left");
+            assert!(bytes == 0 || page[bytes - 1] == b'\n', "a part that does not end a line");
+            assert!(page[bytes..].iter().all(|byte| *byte == 0xaa), "bytes behind a part");
         }
     }
 }

@@ -222,13 +222,7 @@ pub fn print_sheet(
     ensures { λ r. ⌜ (Kept (now (types .entry)) (now (ids .entry)) (keptIn (now (checked .entry))) → shown (now (out .exit)) r ≡ laidOut (now (out .entry)) (sheetFit (now (types .entry)) (now (ids .entry)) (now (sheet .entry)) skip (length (now (out .entry))))) ⌝ }
     ensures { λ _. ⌜ ContinuesOver (now (types .entry)) (now (ids .entry)) (keptIn (now (checked .entry))) (now (sheet .entry)) skip (length (now (out .entry))) ⌝ }
 {
-    print_over(
-        types,
-        ids,
-        numbers_of(checked),
-        places_behind(checked),
-        sheet,
-        out,
-        skip,
-    )
+    let numbers = numbers_of(checked);
+    let places = places_behind(checked);
+    print_over(types, ids, numbers, places, sheet, out, skip)
 }

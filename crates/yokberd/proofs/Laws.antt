@@ -58,3 +58,11 @@ unfolding laidOut ofFit
 sheet-left buf out p f (e, d) g =
     let counted = ap (λ (s : Shown). counts (pick (s .more) 1 0) (s .bytes) (s .lines)) e in
     (ap (λ (m : Bool). counts (pick m 1 0) (p .bytes) (p .lines)) (sym g) ∙ counted, (ap (λ (s : Shown). s .buf) e, d))
+
+-- The same over what is kept of a check: by any numbers, and where these are those of the same bytes.
+pub sheet-kept : {K D : Type 0} (buf out : List ℕ) (p : Printed) (f g : Fit) {b : Bool} → (shown out p ≡ laidOut buf f) × ((K → shown out p ≡ laidOut buf g) × D) → p .more ≡ b
+    → (counts (pick b 1 0) (p .bytes) (p .lines) ≡ ofFit f)
+    × ((out ≡ laidOut buf f .buf) × ((K → (counts (pick b 1 0) (p .bytes) (p .lines) ≡ ofFit g) × (out ≡ laidOut buf g .buf)) × D))
+sheet-kept buf out p f g (e, (k, d)) h =
+    let x = sheet-left buf out p f (e, d) h in
+    (x .0, (x .1 .0, ((λ y. let z = sheet-left buf out p g (k y, d) h in (z .0, z .1 .0)), d)))

@@ -7,8 +7,8 @@ ghost use Rattle.checked_calls.specs.Answers.{left, ofAnswer, laid};
 ghost use Rattle.streams.specs.declared.refusal.StreamKind.the-variants.{Types};
 ghost use Rattle.checked_calls.specs.Checks.{functionOver, idOver, typeOver, sizeOver, ofSizeAnswer};
 ghost use Rattle.checked_calls.specs.Kept.{KeptOf, Kept, keptIn, serving, Filled};
-ghost use Rattle.sheet.specs.Sheet.{sheetFit};
-ghost use Rattle.sheet.specs.Printed.{laidOut, SheetContinues};
+ghost use Rattle.sheet.specs.Sheet.{sheetFit, fitOver};
+ghost use Rattle.sheet.specs.Printed.{laidOut, SheetContinues, ContinuesOver};
 ghost use Rattle.yokberd.specs.Report.{counts, ofFit};
 use checked_calls::answer::Answer;
 use checked_calls::calls::SizeAnswer;
@@ -128,7 +128,7 @@ pub extern "C" fn yokberd_get_type_size(
     report_size(a, detail, bytes)
 }
 
-// Checks both streams once, and leaves in a buffer what the four calls below go by: how many numbers of it serve.
+// Checks both streams once, and leaves in a buffer what the five calls below go by: how many numbers of it serve.
 #[no_mangle]
 pub extern "C" fn yokberd_check_streams(
     types: &[u8],
@@ -234,6 +234,29 @@ pub extern "C" fn yokberd_print_sheet(
     ensures { λ _. ⌜ SheetContinues (now (types .entry)) (now (ids .entry)) (now (sheet .entry)) skip (length (now (out .entry))) ⌝ }
 {
     let p = print_sheet(types, ids, sheet, out, skip);
+    *bytes = p.bytes;
+    *lines = p.lines;
+    if p.more { 1 } else { 0 }
+}
+
+// A sheet's lines over streams that were checked before.
+#[no_mangle]
+pub extern "C" fn yokberd_checked_print_sheet(
+    types: &[u8],
+    ids: &[u8],
+    checked: &[u32],
+    sheet: &[u8],
+    out: &mut [u8],
+    skip: usize,
+    bytes: &mut usize,
+    lines: &mut usize,
+) -> u32
+    ensures { λ r. ⌜ counts r (now (bytes .exit)) (now (lines .exit)) ≡ ofFit (fitOver (now (types .entry)) (now (ids .entry)) (keptIn (now (checked .entry))) (now (sheet .entry)) skip (length (now (out .entry)))) ⌝ }
+    ensures { λ _. ⌜ now (out .exit) ≡ laidOut (now (out .entry)) (fitOver (now (types .entry)) (now (ids .entry)) (keptIn (now (checked .entry))) (now (sheet .entry)) skip (length (now (out .entry)))) .buf ⌝ }
+    ensures { λ r. ⌜ (Kept (now (types .entry)) (now (ids .entry)) (keptIn (now (checked .entry))) → (counts r (now (bytes .exit)) (now (lines .exit)) ≡ ofFit (sheetFit (now (types .entry)) (now (ids .entry)) (now (sheet .entry)) skip (length (now (out .entry))))) × (now (out .exit) ≡ laidOut (now (out .entry)) (sheetFit (now (types .entry)) (now (ids .entry)) (now (sheet .entry)) skip (length (now (out .entry)))) .buf)) ⌝ }
+    ensures { λ _. ⌜ ContinuesOver (now (types .entry)) (now (ids .entry)) (keptIn (now (checked .entry))) (now (sheet .entry)) skip (length (now (out .entry))) ⌝ }
+{
+    let p = checked::print_sheet(types, ids, checked, sheet, out, skip);
     *bytes = p.bytes;
     *lines = p.lines;
     if p.more { 1 } else { 0 }

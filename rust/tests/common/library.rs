@@ -104,6 +104,34 @@ extern "C" {
         detail: *mut u32,
         size: *mut u64,
     ) -> u32;
+    fn yokberd_print_sheet(
+        types: *const u8,
+        types_len: usize,
+        ids: *const u8,
+        ids_len: usize,
+        sheet: *const u8,
+        sheet_len: usize,
+        out: *mut u8,
+        out_len: usize,
+        skip: usize,
+        bytes: *mut usize,
+        lines: *mut usize,
+    ) -> u32;
+    fn yokberd_checked_print_sheet(
+        types: *const u8,
+        types_len: usize,
+        ids: *const u8,
+        ids_len: usize,
+        checked: *const u32,
+        checked_len: usize,
+        sheet: *const u8,
+        sheet_len: usize,
+        out: *mut u8,
+        out_len: usize,
+        skip: usize,
+        bytes: *mut usize,
+        lines: *mut usize,
+    ) -> u32;
 }
 
 /// Two streams and settings.
@@ -154,6 +182,31 @@ impl Plain<'_> {
             };
             told(number, detail, text_len as u64)
         }
+    }
+
+    /// The lines of a sheet behind the first `skip`, which checks its streams: whether lines are left, how many bytes and lines were printed.
+    pub fn print(&self, sheet: &[u8], out: &mut [u8], skip: usize) -> (bool, usize, usize) {
+        let (types, ids, at, room) = (self.types, self.ids, out.as_mut_ptr(), out.len());
+        let (mut bytes, mut lines) = (7, 7);
+        // SAFETY: as in `ask`.
+        let left = unsafe {
+            yokberd_print_sheet(types.as_ptr(), types.len(), ids.as_ptr(), ids.len(), sheet.as_ptr(), sheet.len(), at, room, skip, &mut bytes, &mut lines)
+        };
+        assert!(left <= 1);
+        (left == 1, bytes, lines)
+    }
+
+    /// The same over any numbers.
+    pub fn print_checked(&self, checked: &[u32], sheet: &[u8], out: &mut [u8], skip: usize) -> (bool, usize, usize) {
+        let (types, types_len, ids, ids_len) = (self.types.as_ptr(), self.types.len(), self.ids.as_ptr(), self.ids.len());
+        let (places, count, at, room) = (checked.as_ptr(), checked.len(), out.as_mut_ptr(), out.len());
+        let (mut bytes, mut lines) = (7, 7);
+        let (sheet, sheet_len, bytes_at, lines_at) = (sheet.as_ptr(), sheet.len(), &mut bytes, &mut lines);
+        // SAFETY: as in `ask`.
+        let left =
+            unsafe { yokberd_checked_print_sheet(types, types_len, ids, ids_len, places, count, sheet, sheet_len, at, room, skip, bytes_at, lines_at) };
+        assert!(left <= 1);
+        (left == 1, bytes, lines)
     }
 
     /// Checks both streams; gives how many numbers serve.
