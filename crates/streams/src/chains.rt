@@ -403,13 +403,14 @@ fn guess(s: &[u8], from: usize) -> usize
     s.len()
 }
 
-// A guess that costs little where there are few records, and is seldom wrong where there are many.
-fn guess_by(s: &[u8], count: u32, from: usize) -> usize
+// The same, where a record starts at a multiple of four not far behind, as most do.
+fn quick_guess(s: &[u8], from: usize) -> usize
     requires { ⌜ (length (now s) < 0x1000_0000) × (4 ≤ length (now s)) × (from < 0x1000_0000) ⌝ }
     ensures { λ r. ⌜ r ≤ length (now (s .entry)) ⌝ }
 {
-    if count < 4096 {
-        return near_heads(s, from);
+    let at = near_heads(s, from);
+    if let Place::At(x) = behind_likely(s, at) {
+        return x;
     }
     guess(s, from)
 }
@@ -427,9 +428,9 @@ fn four_chains(s: &[u8], count: u32, places: &mut [u32]) -> Chains
         return Chains::Apart;
     }
     let part = (s.len() - 56) / 16 * 4;
-    let x = guess_by(s, count, 56 + part);
-    let y = guess_by(s, count, 56 + 2 * part);
-    let z = guess_by(s, count, 56 + 3 * part);
+    let x = quick_guess(s, 56 + part);
+    let y = quick_guess(s, 56 + 2 * part);
+    let z = quick_guess(s, 56 + 3 * part);
     let stride = stride_for(count, 2 * wide(room));
     chained(s, count, stride, room, x, y, z, places)
 }
