@@ -115,7 +115,8 @@ fn text_by_byte(out: &mut [u8], p: Pen, s: &[u8]) -> Pen
     q
 }
 
-fn copy(to: &mut [u8], s: &[u8])
+// Bytes over as many others.
+pub fn copy(to: &mut [u8], s: &[u8])
     requires { ⌜ length (now to) ≡ length (now s) ⌝ }
     ensures { λ _. ⌜ now (to .exit) ≡ now (s .entry) ⌝ }
 {

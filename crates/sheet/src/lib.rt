@@ -15,7 +15,6 @@ use crate::command::Command;
 use crate::command::command_at;
 use crate::command::name_end;
 use crate::line::answer_line;
-use crate::line::copy;
 use crate::line::refused_line;
 use crate::line::size_line;
 use checked_calls::calls::function_over;
@@ -238,7 +237,7 @@ fn put_bytes(out: &mut [u8], at: usize, bs: &[u8]) -> Put
         return Put { at, full: true };
     }
     let end = at + n;
-    copy(&mut out[at..end], bs);
+    pen::copy(&mut out[at..end], bs);
     Put {
         at: end,
         full: false,

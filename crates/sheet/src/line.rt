@@ -55,25 +55,13 @@ pub fn refused_line(line: &mut [u8], number: u64, f: Refusal) -> Name
     }
 }
 
-pub fn copy(to: &mut [u8], s: &[u8])
-    requires { ⌜ length (now to) ≡ length (now s) ⌝ }
-    ensures { λ _. ⌜ now (to .exit) ≡ now (s .entry) ⌝ }
-{
-    let n = to.len();
-    let mut i = 0;
-    while i < n {
-        to[i] = s[i];
-        i += 1;
-    }
-}
-
 // The fields before a text or a size: where the running number starts.
 fn head_before(line: &mut [u8], number: u64) -> usize
     requires { ⌜ length (now line) ≡ 4124 ⌝ }
     ensures { λ r. ⌜ (r ≤ 20) × (drop r (now (line .exit)) ≡ (Text.decimal number ++ bytes " 0 0x0 ") ++ drop 27 (now (line .entry))) ⌝ }
 {
     let at = decimal_in(&mut line[0..20], number);
-    copy(&mut line[20..27], b" 0 0x0 ");
+    pen::copy(&mut line[20..27], b" 0 0x0 ");
     at
 }
 

@@ -1,7 +1,6 @@
 -- What is told of an answer is what its definition says, and the counts of a printed sheet are those of its lines. Assumes nothing.
 use Prim.Native.Nat.{ℕ}
 use mathlib.Core.Path.{_≡_, refl, sym, ap, _∙_}
-use mathlib.Core.Bool.{Bool}
 use mathlib.Core.List.{List}
 use Rattle.wire.specs.Field.{pick}
 use Rattle.streams.specs.Refusal.{numberOf, detailOf}
@@ -16,7 +15,7 @@ use Rattle.checked_calls.specs.declared.calls.SizeAnswer.the-variants as size
 use Rattle.sheet.specs.Sheet.{Fit}
 use Rattle.sheet.specs.Printed.{Shown, shown, laidOut}
 use Rattle.sheet.specs.declared.Printed.{Printed}
-use Rattle.yokberd.specs.Report.{counts, ofFit}
+use Rattle.yokberd.specs.Report.{Counts, counts, ofPrinted, ofFit}
 
 refused : {n d : ℕ} (f : Refusal) → n ≡ numberOf f → d ≡ detailOf f → report n d 0 ≡ refusedBy f
 refused f e g = rw (e, g) refl
@@ -52,17 +51,16 @@ text-kept buf out a o u (e, f) h = (ap (left out) h ∙ e, λ k. ap (left out) h
 pub size-kept : {K : Type 0} {r : Report} (a : SizeAnswer) (s t : Size) → (ofSizeAnswer a ≡ ofSize s) × (K → ofSizeAnswer a ≡ ofSize t) → r ≡ ofSizeAnswer a → (r ≡ ofSize s) × (K → r ≡ ofSize t)
 size-kept a s t (e, f) h = (h ∙ e, λ k. h ∙ f k)
 
--- What a sheet call leaves, by whether lines are left.
-pub sheet-left : (buf out : List ℕ) (p : Printed) (f : Fit) {b : Bool} {D : Type 0} → (shown out p ≡ laidOut buf f) × D → p .more ≡ b → (counts (pick b 1 0) (p .bytes) (p .lines) ≡ ofFit f) × ((out ≡ laidOut buf f .buf) × D)
+-- What a sheet call leaves.
+pub sheet-left : (buf out : List ℕ) (p : Printed) (f : Fit) {c : Counts} {D : Type 0} → (shown out p ≡ laidOut buf f) × D → c ≡ ofPrinted p → (c ≡ ofFit f) × ((out ≡ laidOut buf f .buf) × D)
 unfolding laidOut ofFit
 sheet-left buf out p f (e, d) g =
     let counted = ap (λ (s : Shown). counts (pick (s .more) 1 0) (s .bytes) (s .lines)) e in
-    (ap (λ (m : Bool). counts (pick m 1 0) (p .bytes) (p .lines)) (sym g) ∙ counted, (ap (λ (s : Shown). s .buf) e, d))
+    (g ∙ counted, (ap (λ (s : Shown). s .buf) e, d))
 
 -- The same over what is kept of a check: by any numbers, and where these are those of the same bytes.
-pub sheet-kept : {K D : Type 0} (buf out : List ℕ) (p : Printed) (f g : Fit) {b : Bool} → (shown out p ≡ laidOut buf f) × ((K → shown out p ≡ laidOut buf g) × D) → p .more ≡ b
-    → (counts (pick b 1 0) (p .bytes) (p .lines) ≡ ofFit f)
-    × ((out ≡ laidOut buf f .buf) × ((K → (counts (pick b 1 0) (p .bytes) (p .lines) ≡ ofFit g) × (out ≡ laidOut buf g .buf)) × D))
+pub sheet-kept : {K D : Type 0} (buf out : List ℕ) (p : Printed) (f g : Fit) {c : Counts} → (shown out p ≡ laidOut buf f) × ((K → shown out p ≡ laidOut buf g) × D) → c ≡ ofPrinted p
+    → (c ≡ ofFit f) × ((out ≡ laidOut buf f .buf) × ((K → (c ≡ ofFit g) × (out ≡ laidOut buf g .buf)) × D))
 sheet-kept buf out p f g (e, (k, d)) h =
     let x = sheet-left buf out p f (e, d) h in
     (x .0, (x .1 .0, ((λ y. let z = sheet-left buf out p g (k y, d) h in (z .0, z .1 .0)), d)))

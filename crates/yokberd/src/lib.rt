@@ -9,11 +9,12 @@ ghost use Rattle.checked_calls.specs.Checks.{functionOver, idOver, typeOver, si
 ghost use Rattle.checked_calls.specs.Kept.{KeptOf, Kept, keptIn, serving, Filled};
 ghost use Rattle.sheet.specs.Sheet.{sheetFit, fitOver};
 ghost use Rattle.sheet.specs.Printed.{laidOut, SheetContinues, ContinuesOver};
-ghost use Rattle.yokberd.specs.Report.{counts, ofFit};
+ghost use Rattle.yokberd.specs.Report.{counts, ofPrinted, ofFit};
 use checked_calls::answer::Answer;
 use checked_calls::calls::SizeAnswer;
 use codeview::index::IdIndex;
 use codeview::index::TypeIndex;
+use sheet::Printed;
 use sheet::print_sheet;
 use type_formatter::checked;
 use type_formatter::checked::check_streams;
@@ -54,6 +55,14 @@ fn report_size(a: SizeAnswer, detail: &mut u32, bytes: &mut u64) -> u32
             f.number()
         }
     }
+}
+
+fn report_printed(p: Printed, bytes: &mut usize, lines: &mut usize) -> u32
+    ensures { λ r. ⌜ counts r (now (bytes .exit)) (now (lines .exit)) ≡ ofPrinted p ⌝ }
+{
+    *bytes = p.bytes;
+    *lines = p.lines;
+    if p.more { 1 } else { 0 }
 }
 
 // The text of a function, by its name and type.
@@ -234,9 +243,7 @@ pub extern "C" fn yokberd_print_sheet(
     ensures { λ _. ⌜ SheetContinues (now (types .entry)) (now (ids .entry)) (now (sheet .entry)) skip (length (now (out .entry))) ⌝ }
 {
     let p = print_sheet(types, ids, sheet, out, skip);
-    *bytes = p.bytes;
-    *lines = p.lines;
-    if p.more { 1 } else { 0 }
+    report_printed(p, bytes, lines)
 }
 
 // A sheet's lines over streams that were checked before.
@@ -257,7 +264,5 @@ pub extern "C" fn yokberd_checked_print_sheet(
     ensures { λ _. ⌜ ContinuesOver (now (types .entry)) (now (ids .entry)) (keptIn (now (checked .entry))) (now (sheet .entry)) skip (length (now (out .entry))) ⌝ }
 {
     let p = checked::print_sheet(types, ids, checked, sheet, out, skip);
-    *bytes = p.bytes;
-    *lines = p.lines;
-    if p.more { 1 } else { 0 }
+    report_printed(p, bytes, lines)
 }
