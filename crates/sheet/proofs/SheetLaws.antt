@@ -195,7 +195,7 @@ module _ (out₀ : List ℕ) (skip : ℕ) (all : List (List ℕ)) where
       -- the next line does not fit
       pub line-stuck : {r : Printed} {out₁ : List ℕ} {q : ℕ} → placed out₁ q true ≡ putOf out at (ltb n skip) l
           → (r .bytes ≡ q) × ((r .lines ≡ n - skip) × (r .more ≡ true)) → shown out₁ r ≡ laidOut out₀ (fit (length out₀) (drop skip all))
-      line-stuck {r} {out₁} q e f = by (decLt n skip) (decLe (length l) (length out - at))
+      line-stuck {r} {out₁} {q} e f = by (decLt n skip) (decLe (length l) (length out - at))
         where
           by : Dec (n < skip) → Dec (length l ≤ length out - at) → shown out₁ r ≡ laidOut out₀ (fit (length out₀) (drop skip all))
           by (yes h) d = absurd (let z : true ≡ false = ap (λ (x : Placed). x .full) (e ∙ put-passed out at (ltb n skip) l (lt-ltb n skip h)) in true-false z)

@@ -66,6 +66,9 @@ size-line-requires c κs = search needs
 enum-known-c-5 : tie.Need-enum-known-c-5
 enum-known-c-5 c = search needs
 
+cast-t47 : tie.Need-cast-t47
+cast-t47 c = search needs
+
 refused-line-requires : tie.Need-refused-line-requires
 refused-line-requires c κs = omega (arith, c .before .before .before .before .before .before .before .before .before .before .before .pre)
 
@@ -149,6 +152,7 @@ line-of-spec =
     size-over-requires
     size-line-requires
     enum-known-c-5
+    cast-t47
     refused-line-requires
     enum-told
     no-line-requires
