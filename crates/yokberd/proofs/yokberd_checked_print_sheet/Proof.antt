@@ -8,18 +8,15 @@ use Rattle.yokberd.proofs.yokberd_checked_print_sheet.Tie as tie
 print-sheet-requires : tie.Need-print-sheet-requires
 print-sheet-requires c κs = search needs
 
-returns : tie.Need-returns
-returns c = sheet-kept _ _ _ _ _ (c .before .before .before .print-sheet .ensures) (c .if1 .taken)
+report-printed-requires : tie.Need-report-printed-requires
+report-printed-requires c κs = search needs
 
-returns-2 : tie.Need-returns-2
-returns-2 c = sheet-kept _ _ _ _ _ (c .before .before .before .print-sheet .ensures) (c .if1 .left)
+returns : tie.Need-returns
+returns c = sheet-kept _ _ _ _ _ (c .before .before .before .before .before .print-sheet .ensures) (c .report-printed .ensures)
 
 same-length : tie.Need-same-length
 same-length c = search needs
 
-same-length-2 : tie.Need-same-length-2
-same-length-2 c = search needs
-
 pub yokberd-checked-print-sheet-spec : {M : Type 1} → statement M
 yokberd-checked-print-sheet-spec =
-    tie.close (tie.spec print-sheet-requires same-length returns same-length-2 returns-2)
+    tie.close (tie.spec print-sheet-requires report-printed-requires same-length returns)

@@ -11,18 +11,15 @@ use Rattle.sheet.proofs.print_sheet.Reads as print-sheet-reads
 print-sheet-requires : tie.Need-print-sheet-requires
 print-sheet-requires c κs = search needs
 
+report-printed-requires : tie.Need-report-printed-requires
+report-printed-requires c κs = search needs
+
 same-length : tie.Need-same-length
 same-length c = search needs
 
 returns : tie.Need-returns
-returns c = sheet-left _ _ _ _ (c .before .before .before .print-sheet .ensures) (c .if1 .taken)
-
-same-length-2 : tie.Need-same-length-2
-same-length-2 c = search needs
-
-returns-2 : tie.Need-returns-2
-returns-2 c = sheet-left _ _ _ _ (c .before .before .before .print-sheet .ensures) (c .if1 .left)
+returns c = sheet-left _ _ _ _ (c .before .before .before .before .before .print-sheet .ensures) (c .report-printed .ensures)
 
 pub yokberd-print-sheet-spec : {M : Type 1} → statement M
 yokberd-print-sheet-spec =
-    tie.close (tie.spec print-sheet-requires same-length returns same-length-2 returns-2)
+    tie.close (tie.spec print-sheet-requires report-printed-requires same-length returns)
