@@ -362,13 +362,14 @@ fn plausible(kind: u16) -> bool {
     }
 }
 
-// The place behind eight likely heads that follow each other from a place on. What is no head but looks like one mostly leads to a head soon.
-fn behind_likely(s: &[u8], from: usize) -> Place
+// The place behind so many likely heads that follow each other from a place on. What is no head but looks like one mostly leads to a head soon.
+fn behind_likely(s: &[u8], from: usize, heads: u32) -> Place
+    requires { ⌜ 0 < heads ⌝ }
     ensures { λ r. ⌜ ((x : ℕ) → r ≡ At x → x ≤ length (now (s .entry))) ⌝ }
 {
     let mut at = from;
     let mut i: u32 = 0;
-    while i < 8 {
+    while i < heads {
         let Place::At(next) = behind_record(s, at) else {
             return Place::Beyond;
         };
@@ -394,7 +395,7 @@ fn guess(s: &[u8], from: usize) -> usize
         if s.len() <= at {
             return s.len();
         }
-        if let Place::At(x) = behind_likely(s, at) {
+        if let Place::At(x) = behind_likely(s, at, 8) {
             return x;
         }
         at += 1;
@@ -408,8 +409,8 @@ fn quick_guess(s: &[u8], from: usize) -> usize
     requires { ⌜ (length (now s) < 0x1000_0000) × (4 ≤ length (now s)) × (from < 0x1000_0000) ⌝ }
     ensures { λ r. ⌜ r ≤ length (now (s .entry)) ⌝ }
 {
-    let at = near_heads(s, from);
-    if let Place::At(x) = behind_likely(s, at) {
+    let at = near_heads(s, from, 384);
+    if let Place::At(x) = behind_likely(s, at, 4) {
         return x;
     }
     guess(s, from)

@@ -158,11 +158,11 @@ fn two_heads(s: &[u8], at: usize) -> bool
 }
 
 // A place where two likely heads follow each other, not far behind another; 0 where there is none. Records mostly start at a multiple of four.
-pub fn near_heads(s: &[u8], from: usize) -> usize
-    requires { ⌜ (length (now s) < 0x1000_0000) × (4 ≤ length (now s)) × (from < 0x1000_0000) ⌝ }
+pub fn near_heads(s: &[u8], from: usize, reach: usize) -> usize
+    requires { ⌜ (length (now s) < 0x1000_0000) × (4 ≤ length (now s)) × (from < 0x1000_0000) × (reach < 0x1000_0000) ⌝ }
     ensures { λ r. ⌜ r ≤ length (now (s .entry)) ⌝ }
 {
-    let until = shorter(from + 384, s.len() - 4);
+    let until = shorter(from + reach, s.len() - 4);
     let mut at = from;
     while at < until {
         if two_heads(s, at) {
@@ -171,6 +171,17 @@ pub fn near_heads(s: &[u8], from: usize) -> usize
         at += 4;
     }
     0
+}
+
+// The same near one place, or else behind another: a long record may lie at the first.
+fn near_either(s: &[u8], from: usize, other: usize) -> usize
+    requires { ⌜ (length (now s) < 0x1000_0000) × (4 ≤ length (now s)) × (from < 0x1000_0000) × (other < 0x1000_0000) ⌝ }
+{
+    let at = near_heads(s, from, 128);
+    if 0 < at {
+        return at;
+    }
+    near_heads(s, other, 512)
 }
 
 // Four chains from the start and three guesses.
@@ -185,9 +196,10 @@ pub fn short_chains(s: &[u8], count: u32, places: &mut [u32]) -> Chains
         return Chains::Apart;
     }
     let part = (s.len() - 56) / 16 * 4;
-    let x = near_heads(s, 56 + part);
-    let y = near_heads(s, 56 + 2 * part);
-    let z = near_heads(s, 56 + 3 * part);
+    let half = part / 8 * 4;
+    let x = near_either(s, 56 + part, 56 + half);
+    let y = near_either(s, 56 + 2 * part, 56 + part + half);
+    let z = near_either(s, 56 + 3 * part, 56 + 2 * part + half);
     if x <= 56 {
         return Chains::Apart;
     }

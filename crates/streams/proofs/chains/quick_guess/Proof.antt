@@ -1,14 +1,15 @@
 -- Either guess lies inside.
 -- Assumes nothing.
+use native.Mathlib.Omega.{arith}
 use borrow.Author.Needs.{needs}
 use Rattle.streams.proofs.chains.quick_guess.Statement.{statement}
 use Rattle.streams.proofs.chains.quick_guess.Tie as tie
 
 near-heads-requires : tie.Need-near-heads-requires
-near-heads-requires c κs = c .before .pre
+near-heads-requires c κs = (c .before .pre .0, c .before .pre .1, c .before .pre .2, omega arith)
 
 behind-likely-requires : tie.Need-behind-likely-requires
-behind-likely-requires c κs = search needs
+behind-likely-requires c κs = omega arith
 
 enum-known-x : tie.Need-enum-known-x
 enum-known-x c = search needs

@@ -7,13 +7,13 @@ use Rattle.streams.proofs.short.near_heads.Statement.{statement}
 use Rattle.streams.proofs.short.near_heads.Tie as tie
 
 abbrev Inv-loop : tie.InvT-loop
-Inv-loop s from until₀ at₀ at = 0 ≤ at
+Inv-loop s from reach until₀ at₀ at = 0 ≤ at
 
 abbrev μ-loop : tie.MeasureT-loop
-μ-loop s from until₀ at₀ at = 0x2000_0000 - at
+μ-loop s from reach until₀ at₀ at = 0x2000_0000 - at
 
 add-shorter : tie.Need-add-shorter Inv-loop μ-loop
-add-shorter c = omega (arith, c .before .pre .2)
+add-shorter c = omega (arith, c .before .pre .2, c .before .pre .3)
 
 sub-shorter : tie.Need-sub-shorter Inv-loop μ-loop
 sub-shorter c = omega (arith, c .before .pre .1)

@@ -19,29 +19,50 @@ sub-part c = omega (arith, c .if2 .left)
 mul-part : tie.Need-mul-part
 mul-part c = omega (arith, c .before .before .before .before .pre)
 
-add-near-heads : tie.Need-add-near-heads
-add-near-heads c = omega (arith, c .before .before .before .before .pre)
+mul-half : tie.Need-mul-half
+mul-half c = omega (arith, c .before .before .before .before .pre)
 
-near-heads-requires : tie.Need-near-heads-requires
-near-heads-requires c κs = (c .before .before .before .before .pre, omega (arith, c .if2 .left), omega (arith, c .before .before .before .before .pre))
+add-near-either : tie.Need-add-near-either
+add-near-either c = omega (arith, c .before .before .before .before .pre)
 
-mul-near-heads : tie.Need-mul-near-heads
-mul-near-heads c = omega (arith, c .before .before .before .before .before .pre)
+add-near-either-2 : tie.Need-add-near-either-2
+add-near-either-2 c = omega (arith, c .before .before .before .before .pre)
 
-add-near-heads-2 : tie.Need-add-near-heads-2
-add-near-heads-2 c = omega (arith, c .before .before .before .before .before .pre)
+near-either-requires : tie.Need-near-either-requires
+near-either-requires c κs = (c .before .before .before .before .pre, omega (arith, c .if2 .left), omega (arith, c .before .before .before .before .pre), omega (arith, c .before .before .before .before .pre))
 
-near-heads-requires-2 : tie.Need-near-heads-requires-2
-near-heads-requires-2 c κs = (c .before .before .before .before .before .pre, omega (arith, c .before .if2 .left), omega (arith, c .before .before .before .before .before .pre))
+mul-near-either : tie.Need-mul-near-either
+mul-near-either c = omega (arith, c .before .before .before .before .before .pre)
 
-mul-near-heads-2 : tie.Need-mul-near-heads-2
-mul-near-heads-2 c = omega (arith, c .before .before .before .before .before .before .pre)
+add-near-either-3 : tie.Need-add-near-either-3
+add-near-either-3 c = omega (arith, c .before .before .before .before .before .pre)
 
-add-near-heads-3 : tie.Need-add-near-heads-3
-add-near-heads-3 c = omega (arith, c .before .before .before .before .before .before .pre)
+add-near-either-4 : tie.Need-add-near-either-4
+add-near-either-4 c = omega (arith, c .before .before .before .before .before .pre)
 
-near-heads-requires-3 : tie.Need-near-heads-requires-3
-near-heads-requires-3 c κs = (c .before .before .before .before .before .before .pre, omega (arith, c .before .before .if2 .left), omega (arith, c .before .before .before .before .before .before .pre))
+add-near-either-5 : tie.Need-add-near-either-5
+add-near-either-5 c = omega (arith, c .before .before .before .before .before .pre)
+
+near-either-requires-2 : tie.Need-near-either-requires-2
+near-either-requires-2 c κs = (c .before .before .before .before .before .pre, omega (arith, c .before .if2 .left), omega (arith, c .before .before .before .before .before .pre), omega (arith, c .before .before .before .before .before .pre))
+
+mul-near-either-2 : tie.Need-mul-near-either-2
+mul-near-either-2 c = omega (arith, c .before .before .before .before .before .before .pre)
+
+add-near-either-6 : tie.Need-add-near-either-6
+add-near-either-6 c = omega (arith, c .before .before .before .before .before .before .pre)
+
+mul-near-either-3 : tie.Need-mul-near-either-3
+mul-near-either-3 c = omega (arith, c .before .before .before .before .before .before .pre)
+
+add-near-either-7 : tie.Need-add-near-either-7
+add-near-either-7 c = omega (arith, c .before .before .before .before .before .before .pre)
+
+add-near-either-8 : tie.Need-add-near-either-8
+add-near-either-8 c = omega (arith, c .before .before .before .before .before .before .pre)
+
+near-either-requires-3 : tie.Need-near-either-requires-3
+near-either-requires-3 c κs = (c .before .before .before .before .before .before .pre, omega (arith, c .before .before .if2 .left), omega (arith, c .before .before .before .before .before .before .pre), omega (arith, c .before .before .before .before .before .before .pre))
 
 returns-3 : tie.Need-returns-3
 returns-3 c = chained-apart _ _ _ _ refl
@@ -75,14 +96,21 @@ short-chains-spec =
     returns-2
     sub-part
     mul-part
-    add-near-heads
-    near-heads-requires
-    mul-near-heads
-    add-near-heads-2
-    near-heads-requires-2
-    mul-near-heads-2
-    add-near-heads-3
-    near-heads-requires-3
+    mul-half
+    add-near-either
+    add-near-either-2
+    near-either-requires
+    mul-near-either
+    add-near-either-3
+    add-near-either-4
+    add-near-either-5
+    near-either-requires-2
+    mul-near-either-2
+    add-near-either-6
+    mul-near-either-3
+    add-near-either-7
+    add-near-either-8
+    near-either-requires-3
     returns-3
     returns-4
     returns-5
