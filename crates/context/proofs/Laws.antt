@@ -62,6 +62,31 @@ pub has-none : (l : List ℕ) (n i : ℕ) → length l ≤ n → hasIndex i (key
 unfolding hasIndex keysOf
 has-none l n i h = rw (drop-of-length-le l h)
 
+-- four at a turn
+module _ (l : List ℕ) (n i : ℕ) (h : n + 4 ≤ length l) where
+  abbrev misses : ℕ → Type 0
+  misses k = getD l (n + k) 0 % 4_294_967_296 ≡ i → ⊥
+
+  past : (k : ℕ) → k < 4 → misses k → hasIndex i (keysOf (drop (n + k) l)) ≡ hasIndex i (keysOf (drop (n + (k + 1)) l))
+  past k b m =
+      let e : (n + k) + 1 ≡ n + (k + 1) = omega arith in
+      has-next l (n + k) i (omega arith) m ∙ ap (λ (j : ℕ). hasIndex i (keysOf (drop j l))) e
+
+  first : (getD l n 0 % 4_294_967_296 ≡ i → ⊥) → hasIndex i (keysOf (drop n l)) ≡ hasIndex i (keysOf (drop (n + 1) l))
+  first m = has-next l n i (omega arith) m
+
+  pub has-second : (getD l n 0 % 4_294_967_296 ≡ i → ⊥) → getD l (n + 1) 0 % 4_294_967_296 ≡ i → hasIndex i (keysOf (drop n l)) ≡ true
+  has-second a e = first a ∙ has-here l (n + 1) i (omega arith) e
+
+  pub has-third : (getD l n 0 % 4_294_967_296 ≡ i → ⊥) → misses 1 → getD l (n + 2) 0 % 4_294_967_296 ≡ i → hasIndex i (keysOf (drop n l)) ≡ true
+  has-third a b e = first a ∙ past 1 (omega arith) b ∙ has-here l (n + 2) i (omega arith) e
+
+  pub has-fourth : (getD l n 0 % 4_294_967_296 ≡ i → ⊥) → misses 1 → misses 2 → getD l (n + 3) 0 % 4_294_967_296 ≡ i → hasIndex i (keysOf (drop n l)) ≡ true
+  has-fourth a b c e = first a ∙ past 1 (omega arith) b ∙ past 2 (omega arith) c ∙ has-here l (n + 3) i (omega arith) e
+
+  pub has-behind : (getD l n 0 % 4_294_967_296 ≡ i → ⊥) → misses 1 → misses 2 → misses 3 → hasIndex i (keysOf (drop n l)) ≡ hasIndex i (keysOf (drop (n + 4) l))
+  has-behind a b c d = first a ∙ past 1 (omega arith) b ∙ past 2 (omega arith) c ∙ past 3 (omega arith) d
+
 -- a push
 pub drop-set : {A : Type 0} (l : List A) (n : ℕ) (x : A) → n < length l → drop n (set l n x) ≡ x ∷ drop (n + 1) l
 drop-set l n x h =

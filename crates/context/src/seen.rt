@@ -2,8 +2,10 @@
 // number. One list of 96 is lent to all writers: the open ones lie from `left` to its end, the newest first. An opening is written right below them, and
 // what is called is lent the list with the new `left`: nothing is copied, and nothing is taken back when a writer ends.
 ghost use mathlib.Core.Path.{_≡_};
-ghost use Prim.Native.Nat.{_≤_, _<_};
+ghost use mathlib.Core.Bool.{true};
+ghost use Prim.Native.Nat.{_+_, _≤_, _<_};
 ghost use lib.ListN.{length, drop};
+ghost use Rattle.wire.specs.Field.{pick};
 ghost use Rattle.context.specs.Context.{keysOf, hasIndex};
 ghost use Rattle.context.specs.Opening.{wayOf, Opens, OpensType};
 use codeview::index::TypeIndex;
@@ -36,7 +38,7 @@ pub enum TypeOpening {
     Stopped(Pen),
 }
 
-fn has(seen: &[u64], left: usize, index: u32) -> bool
+fn has_from(seen: &[u64], left: usize, index: u32) -> bool
     ensures { λ r. ⌜ r ≡ hasIndex index (keysOf (drop left (now (seen .entry)))) ⌝ }
 {
     let wanted = index as u64;
@@ -46,6 +48,45 @@ fn has(seen: &[u64], left: usize, index: u32) -> bool
             return true;
         }
         i += 1;
+    }
+    false
+}
+
+// Whether an index is one of four; where it is not, it is open if it is among those behind them.
+fn four_have(seen: &[u64], at: usize, index: u32) -> bool
+    requires { ⌜ at + 4 ≤ length (now seen) ⌝ }
+    ensures { λ r. ⌜ hasIndex index (keysOf (drop at (now (seen .entry)))) ≡ pick r true (hasIndex index (keysOf (drop (at + 4) (now (seen .entry))))) ⌝ }
+{
+    let wanted = index as u64;
+    if seen[at] % 4_294_967_296 == wanted {
+        return true;
+    }
+    if seen[at + 1] % 4_294_967_296 == wanted {
+        return true;
+    }
+    if seen[at + 2] % 4_294_967_296 == wanted {
+        return true;
+    }
+    if seen[at + 3] % 4_294_967_296 == wanted {
+        return true;
+    }
+    false
+}
+
+// The same of all from a place on, four at a turn.
+fn has(seen: &[u64], left: usize, index: u32) -> bool
+    ensures { λ r. ⌜ r ≡ hasIndex index (keysOf (drop left (now (seen .entry)))) ⌝ }
+{
+    let n = seen.len();
+    let mut i = left;
+    while i < n {
+        if n - i < 4 {
+            return has_from(seen, i, index);
+        }
+        if four_have(seen, i, index) {
+            return true;
+        }
+        i += 4;
     }
     false
 }

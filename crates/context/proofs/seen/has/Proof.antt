@@ -6,29 +6,33 @@ use Prim.Native.Nat.{_-_}
 use mathlib.Core.Path.{_≡_, refl, sym, _∙_}
 use lib.ListN.{length, drop}
 use Rattle.context.specs.Context.{keysOf, hasIndex}
-use Rattle.context.proofs.Laws.{has-here, has-next, has-none}
+use Rattle.context.proofs.Laws.{has-none}
 use Rattle.context.proofs.seen.has.Statement.{statement}
 use Rattle.context.proofs.seen.has.Tie as tie
-use Rattle.context.proofs.seen.has.Reads as reads
-use Rattle.context.proofs.seen.has.Lts as lts
 
 abbrev Inv-loop : tie.InvT-loop
-Inv-loop seen left index wanted i₀ i = hasIndex index (keysOf (drop left seen)) ≡ hasIndex index (keysOf (drop i seen))
+Inv-loop seen left index n₀ i₀ i = hasIndex index (keysOf (drop left seen)) ≡ hasIndex index (keysOf (drop i seen))
 
 abbrev μ-loop : tie.MeasureT-loop
-μ-loop seen left index wanted i₀ i = length seen - i
+μ-loop seen left index n₀ i₀ i = length seen - i
 
 loop-holds : tie.Need-loop-holds Inv-loop μ-loop
 loop-holds c = refl
 
-mul-if1 : tie.Need-mul-if1 Inv-loop μ-loop
-mul-if1 c = search needs
+sub-if1 : tie.Need-sub-if1 Inv-loop μ-loop
+sub-if1 c = search needs
 
-shared-slice-read-if1 : tie.Need-shared-slice-read-if1 Inv-loop μ-loop
-shared-slice-read-if1 c = search needs
+has-from-requires : tie.Need-has-from-requires Inv-loop μ-loop
+has-from-requires c κs = search needs
 
 returns : tie.Need-returns Inv-loop μ-loop
-returns c = sym (c .before .before .before .loop .inv ∙ has-here (c .before .before .before .before .args .seen .now) (c .before .before .before .loop .i) (c .before .before .before .before .args .index) (omega arith) (cc))
+returns c = c .has-from .ensures ∙ sym (c .before .before .before .loop .inv)
+
+four-have-requires : tie.Need-four-have-requires Inv-loop μ-loop
+four-have-requires c κs = omega arith
+
+returns-2 : tie.Need-returns-2 Inv-loop μ-loop
+returns-2 c = sym (c .before .before .before .before .loop .inv ∙ (rw (c .if2 .taken) at (c .before .four-have .ensures)))
 
 add-i : tie.Need-add-i Inv-loop μ-loop
 add-i c = search needs
@@ -37,10 +41,10 @@ loop-less : tie.Need-loop-less Inv-loop μ-loop
 loop-less c = search needs
 
 loop-again : tie.Need-loop-again Inv-loop μ-loop
-loop-again c = c .before .before .before .loop .inv ∙ has-next (c .before .before .before .before .args .seen .now) (c .before .before .before .loop .i) (c .before .before .before .before .args .index) (omega arith) (λ e. c .if1 .left (cc))
+loop-again c = c .before .before .before .before .loop .inv ∙ (rw (c .if2 .left) at (c .before .four-have .ensures))
 
-returns-2 : tie.Need-returns-2 Inv-loop μ-loop
-returns-2 c = sym (c .before .loop .inv ∙ has-none (c .before .before .args .seen .now) (c .before .loop .i) (c .before .before .args .index) (omega arith))
+returns-3 : tie.Need-returns-3 Inv-loop μ-loop
+returns-3 c = sym (c .before .loop .inv ∙ has-none (c .before .before .before .args .seen .now) (c .before .loop .i) (c .before .before .before .args .index) (omega arith))
 
 pub has-spec : {M : Type 1} → statement M
 has-spec =
@@ -49,10 +53,12 @@ has-spec =
     Inv-loop
     μ-loop
     loop-holds
-    mul-if1
-    shared-slice-read-if1
+    sub-if1
+    has-from-requires
     returns
+    four-have-requires
+    returns-2
     add-i
     loop-less
     loop-again
-    returns-2)
+    returns-3)
