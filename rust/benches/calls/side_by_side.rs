@@ -4,7 +4,7 @@
 //! |---|---|
 //! | single: a plain call, which checks its streams | fresh: a new formatter for each call |
 //! | checked once: one formatter of the crate, which checked the streams when it was made | warm: one formatter, of which all of this was asked before |
-//! | a sheet's line: all calls in one sheet, which checks the streams once | the same |
+//! | a sheet's line: all calls in one sheet of that formatter | the same |
 //!
 //! Like for like: the same with the original's `emit_` calls, which write into a string that is there; and our calls that make a `String`, of a new
 //! formatter and of one that checked.
