@@ -1,11 +1,10 @@
 // The check of a stream in four chains of records from guessed starts. A guess that is wrong costs time and changes no answer.
 ghost use mathlib.Core.Path.{_≡_};
 ghost use mathlib.Core.Bool.{true};
-ghost use Prim.Native.Nat.{ℕ, _≤_, _<_, _+_, _*_};
+ghost use Prim.Native.Nat.{_≤_, _<_, _+_, _*_};
 ghost use lib.ListN.{length};
 ghost use Rattle.streams.specs.Chains.{Linked, Dued, FourBefore, Stretched, Stepped, Finished, ChainedFor};
 ghost use Rattle.streams.specs.Places.{NotedFor};
-ghost use Rattle.streams.specs.declared.stream.Place.the-variants.{At, Beyond};
 use crate::places::NotedCheck;
 use crate::places::Spacing;
 use crate::places::check_with_stride;
@@ -14,6 +13,7 @@ use crate::places::stride_for;
 use crate::places::wide;
 use crate::refusal::StreamKind;
 use crate::short::before;
+use crate::short::likely;
 use crate::short::near_heads;
 use crate::short::short_chains;
 use crate::stream::Head;
@@ -22,7 +22,8 @@ use crate::stream::Stream;
 use crate::stream::StreamCheck;
 use crate::stream::behind_record;
 use crate::stream::header_of;
-use wire::field::Field16;
+use crate::stream::shorter;
+use crate::stream::two;
 
 // How many records a chain has up to its goal, or that it does not come there.
 pub enum Chain {
@@ -353,65 +354,70 @@ fn chained(
     Chains::Apart
 }
 
-fn plausible(kind: u16) -> bool {
-    match kind {
-        0x1001 | 0x1002 | 0x1008 | 0x1009 | 0x1201 | 0x1203 | 0x1205 | 0x1206 => true,
-        0x1503 | 0x1504 | 0x1505 | 0x1506 | 0x1507 | 0x000a | 0x000e | 0x151d => true,
-        0x1601 | 0x1602 | 0x1603 | 0x1604 | 0x1605 | 0x1606 | 0x1607 => true,
-        _ => false,
-    }
-}
-
-// The place behind so many likely heads that follow each other from a place on. What is no head but looks like one mostly leads to a head soon.
-fn behind_likely(s: &[u8], from: usize, heads: u32) -> Place
-    requires { ⌜ 0 < heads ⌝ }
-    ensures { λ r. ⌜ ((x : ℕ) → r ≡ At x → x ≤ length (now (s .entry))) ⌝ }
+// The place behind what may be a record; 0 where its head is not likely.
+fn behind_likely(s: &[u8], at: usize) -> usize
+    requires { ⌜ (4 ≤ length (now s)) × (length (now s) < 0x1000_0000) ⌝ }
+    ensures { λ r. ⌜ (0 < r → at + 4 ≤ length (now (s .entry))) ⌝ }
 {
-    let mut at = from;
-    let mut i: u32 = 0;
-    while i < heads {
-        let Place::At(next) = behind_record(s, at) else {
-            return Place::Beyond;
-        };
-        let Field16::Value(kind) = wire::field::u16_at(s, at + 2) else {
-            return Place::Beyond;
-        };
-        if !plausible(kind) {
-            return Place::Beyond;
-        }
-        at = next;
-        i += 1;
+    if s.len() - 4 < at {
+        return 0;
     }
-    Place::At(at)
+    if !likely(s, at + 2) {
+        return 0;
+    }
+    let size = two(s, at);
+    if size < 2 {
+        return 0;
+    }
+    at + 2 + (size as usize)
 }
 
-// A place behind another where a record may start.
-fn guess(s: &[u8], from: usize) -> usize
+// The third of three likely heads that follow each other from a place on; 0 where there are not three. What is no head but looks like one mostly leads
+// to a head soon.
+fn third_head(s: &[u8], at: usize) -> usize
+    requires { ⌜ (4 ≤ length (now s)) × (length (now s) < 0x1000_0000) ⌝ }
     ensures { λ r. ⌜ r ≤ length (now (s .entry)) ⌝ }
 {
+    let second = behind_likely(s, at);
+    if second == 0 {
+        return 0;
+    }
+    let third = behind_likely(s, second);
+    if third == 0 {
+        return 0;
+    }
+    if behind_likely(s, third) == 0 {
+        return 0;
+    }
+    third
+}
+
+// A place behind another where a record may start, sought byte by byte; the end of the stream where none is near.
+fn guess(s: &[u8], from: usize) -> usize
+    requires { ⌜ (4 ≤ length (now s)) × (length (now s) < 0x1000_0000) × (from < 0x1000_0000) ⌝ }
+    ensures { λ r. ⌜ r ≤ length (now (s .entry)) ⌝ }
+{
+    let until = shorter(from + 65536, s.len() - 4);
     let mut at = from;
-    let mut i: u32 = 0;
-    while i < 65536 {
-        if s.len() <= at {
-            return s.len();
-        }
-        if let Place::At(x) = behind_likely(s, at, 8) {
-            return x;
+    while at < until {
+        let third = third_head(s, at);
+        if 0 < third {
+            return third;
         }
         at += 1;
-        i += 1;
     }
     s.len()
 }
 
-// The same, where a record starts at a multiple of four not far behind, as most do.
+// The same, first at multiples of four not far behind, where most records start.
 fn quick_guess(s: &[u8], from: usize) -> usize
-    requires { ⌜ (length (now s) < 0x1000_0000) × (4 ≤ length (now s)) × (from < 0x1000_0000) ⌝ }
+    requires { ⌜ (4 ≤ length (now s)) × (length (now s) < 0x1000_0000) × (from < 0x1000_0000) ⌝ }
     ensures { λ r. ⌜ r ≤ length (now (s .entry)) ⌝ }
 {
-    let at = near_heads(s, from, 384);
-    if let Place::At(x) = behind_likely(s, at, 4) {
-        return x;
+    let at = near_heads(s, from, 64);
+    let third = third_head(s, at);
+    if 56 < third {
+        return third;
     }
     guess(s, from)
 }

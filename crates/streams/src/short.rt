@@ -133,7 +133,7 @@ fn four_short(s: &[u8], count: u32, x: usize, y: usize, z: usize, places: &mut [
 }
 
 // Whether the kind of a record may stand at a place.
-fn likely(s: &[u8], at: usize) -> bool
+pub fn likely(s: &[u8], at: usize) -> bool
     requires { ⌜ at + 2 ≤ length (now s) ⌝ }
 {
     let kind = two(s, at);
