@@ -25,7 +25,7 @@ use crate::stream::header_of;
 use crate::stream::shorter;
 use crate::stream::two;
 
-// How many records a chain has up to its goal, or that it does not come there.
+// How many records a chain has up to its goal, or that it does not come there or has too many.
 pub enum Chain {
     Met(u32),
     Apart,
@@ -94,7 +94,8 @@ fn note(
     }
 }
 
-// The rest of a chain that started at `from`.
+// The rest of a chain that started at `from`. It is apart too where it has more records than its entries serve for: behind the last of them a look-up
+// would walk far.
 fn finish(
     s: &[u8],
     from: usize,
@@ -109,7 +110,7 @@ fn finish(
     places: &mut [u32],
 ) -> Chain
     requires { ⌜ Linked (now s) from stride room base (now places) start number noted due ⌝ }
-    requires { ⌜ (length (now s) < 0x1_0000_0000) × (from ≤ length (now s)) × (0 < stride) × (base + room ≤ length (now places)) ⌝ }
+    requires { ⌜ (length (now s) < 0x1_0000_0000) × (from ≤ length (now s)) × (0 < stride) × (base + room ≤ length (now places)) × (room < 0x1_0000_0000) ⌝ }
     ensures { λ r. ⌜ Finished (now (s .entry)) from goal stride room base (now (places .entry)) (now (places .exit)) r ⌝ }
 {
     let mut at = start;
@@ -127,7 +128,9 @@ fn finish(
         wait = d.wait - 1;
     }
     if at == goal {
-        return Chain::Met(n);
+        if wide(n) <= room * wide(stride) {
+            return Chain::Met(n);
+        }
     }
     Chain::Apart
 }

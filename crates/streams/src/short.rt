@@ -76,7 +76,7 @@ fn note_in(places: &mut [u32], base: usize, k: usize, at: usize)
     }
 }
 
-// The rest of a chain that started at `from` and has noted so many records. What is past the end is no goal.
+// The rest of a chain that started at `from` and has noted so many records; it is apart too where it has more than 64. What is past the end is no goal.
 fn rest(s: &[u8], from: usize, noted: usize, goal: usize, base: usize, places: &mut [u32]) -> Chain
     requires { ⌜ Traced (now s) from base (now places) (getD (now places) (base + noted) 0) noted (noted + 1) ⌝ }
     requires { ⌜ (length (now s) < 0x1000_0000) × (0 < length (now s)) × (noted < 64) × (base + 64 ≤ length (now places)) × (goal ≤ length (now s)) ⌝ }
@@ -93,6 +93,9 @@ fn rest(s: &[u8], from: usize, noted: usize, goal: usize, base: usize, places: &
         at = at + 2 + (size as usize);
         k += 1;
         note_in(places, base, k, at);
+    }
+    if 64 < k {
+        return Chain::Apart;
     }
     if at == goal {
         return Chain::Met(k as u32);

@@ -68,14 +68,17 @@ loop-less c = omega (arith, c .before .before .before .before .before .before .l
 loop-again : tie.Need-loop-again Inv-loop μ-loop
 loop-again c = (λ h. c .before .before .note-in .ensures .traced _ _ (traced-next _ _ _ _ _ _ _ (c .before .before .before .before .before .before .before .loop .inv .0 (omega (arith, c .before .before .before .before .before .before .loop-test .taken, c .before .before .before .before .before .before .before .before .before .before .shorter .ensures, c .before .before .before .before .before .before .before .before .before .before .before .before .before .pre .1 .4))) _ (behind-ends _ _ At Beyond _ (c .before .before .before .before .before .two .ensures) (c .before .before .before .before .if1 .left) h)), within-trans _ _ _ _ _ (c .before .before .before .before .before .before .before .loop .inv .1) (c .before .before .note-in .ensures .within))
 
-cast-t22 : tie.Need-cast-t22 Inv-loop μ-loop
-cast-t22 c = omega (arith, traced-few _ _ _ _ _ _ _ (c .before .before .loop .inv .0 (omega (arith, c .if2 .taken, c .before .before .before .before .before .before .before .before .pre .1 .4))), c .if2 .taken, c .before .before .before .before .before .before .before .before .pre .1 .0, c .before .before .before .before .before .before .before .before .pre .1 .4)
-
 returns-2 : tie.Need-returns-2 Inv-loop μ-loop
-returns-2 c = traced-met _ _ _ _ _ _ (c .before .before .loop .inv .0 (omega (arith, c .if2 .taken, c .before .before .before .before .before .before .before .before .pre .1 .4))) _ (c .if2 .taken) _ (c .before .before .loop .inv .1)
+returns-2 c = finished-apart _ _ _ _ _ _ _ _ (c .before .before .loop .inv .1)
+
+cast-t22 : tie.Need-cast-t22 Inv-loop μ-loop
+cast-t22 c = omega (arith, c .before .if2 .left)
 
 returns-3 : tie.Need-returns-3 Inv-loop μ-loop
-returns-3 c = finished-apart _ _ _ _ _ _ _ _ (c .before .before .loop .inv .1)
+returns-3 c = traced-met _ _ _ _ _ _ (c .before .before .before .loop .inv .0 (omega (arith, c .if3 .taken, c .before .before .before .before .before .before .before .before .before .pre .1 .4))) _ (c .if3 .taken) _ (c .before .before .before .loop .inv .1)
+
+returns-4 : tie.Need-returns-4 Inv-loop μ-loop
+returns-4 c = finished-apart _ _ _ _ _ _ _ _ (c .before .before .before .loop .inv .1)
 
 same-length : tie.Need-same-length Inv-loop μ-loop
 same-length c = c .before .before .before .loop .inv .1 .sized
@@ -84,7 +87,10 @@ same-length-2 : tie.Need-same-length-2 Inv-loop μ-loop
 same-length-2 c = c .before .before .loop .inv .1 .sized
 
 same-length-3 : tie.Need-same-length-3 Inv-loop μ-loop
-same-length-3 c = c .before .before .loop .inv .1 .sized
+same-length-3 c = c .before .before .before .loop .inv .1 .sized
+
+same-length-4 : tie.Need-same-length-4 Inv-loop μ-loop
+same-length-4 c = c .before .before .before .loop .inv .1 .sized
 
 pub rest-spec : {M : Type 1} → statement M
 rest-spec =
@@ -109,8 +115,10 @@ rest-spec =
     note-in-requires
     loop-less
     loop-again
-    cast-t22
     same-length-2
     returns-2
+    cast-t22
     same-length-3
-    returns-3)
+    returns-3
+    same-length-4
+    returns-4)
