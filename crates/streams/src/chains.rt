@@ -9,6 +9,7 @@ use crate::places::NotedCheck;
 use crate::places::Spacing;
 use crate::places::check_with_stride;
 use crate::places::entries;
+use crate::places::least;
 use crate::places::stride_for;
 use crate::places::wide;
 use crate::refusal::StreamKind;
@@ -425,7 +426,8 @@ fn quick_guess(s: &[u8], from: usize) -> usize
     guess(s, from)
 }
 
-// Four chains from the start and three guesses.
+// Four chains from the start and three guesses. The stride is the lesser of two: with one, half of the entries serve for the records that there should be;
+// with the other, all of them serve for the most records that so many bytes can hold.
 fn four_chains(s: &[u8], count: u32, places: &mut [u32]) -> Chains
     requires { ⌜ length (now s) < 0x1000_0000 ⌝ }
     ensures { λ r. ⌜ ChainedFor (now (s .entry)) count (now (places .entry)) (now (places .exit)) r ⌝ }
@@ -441,7 +443,11 @@ fn four_chains(s: &[u8], count: u32, places: &mut [u32]) -> Chains
     let x = quick_guess(s, 56 + part);
     let y = quick_guess(s, 56 + 2 * part);
     let z = quick_guess(s, 56 + 3 * part);
-    let stride = stride_for(count, 2 * wide(room));
+    let most = ((s.len() - 56) / 4) as u32;
+    let stride = least(
+        stride_for(count, 2 * wide(room)),
+        stride_for(most, 4 * wide(room)),
+    );
     chained(s, count, stride, room, x, y, z, places)
 }
 
