@@ -21,20 +21,13 @@ use Rattle.context.specs.declared.levels.Levels.{Levels}
 use Rattle.context.specs.declared.levels.Dimensions.{Dimensions}
 use Rattle.context.specs.declared.levels.PtrAttributes.{PtrAttributes}
 use Rattle.codeview.specs.declared.record.PointerMode.the-variants as mode
-use Rattle.streams.specs.declared.refusal.Refusal.{Refusal}
 use Rattle.streams.specs.declared.refusal.Refusal.the-variants.{CircularTypeDefinition, TooManyOpen}
-use Rattle.codeview.specs.declared.record.TypeData.{TypeData}
-use Rattle.codeview.specs.declared.record.TypeRead.{TypeRead}
-use Rattle.codeview.specs.declared.record.TypeRead.the-variants as typeRead
-use Rattle.pen.specs.Page.{readPen, idle, gone, refusedPen, unreadPen}
+use Rattle.pen.specs.Page.{readPen, idle, gone, refusedPen}
 use Rattle.pen.proofs.Laws.{refused-alive}
 use Rattle.pen.specs.declared.Pen.{Pen}
 use Rattle.context.specs.Context.{intersects, keyOf, keysOf, hasIndex, flagsByte, modeByte, modeAt, levelByte, levelOf, levelAt, overLevels, sizesOf, pushedDimension}
-use Rattle.context.specs.Opening.{wayOf, Leaves, leaves, opensTo, readTo, openedTo, opensTypeTo}
+use Rattle.context.specs.Opening.{wayOf, Leaves, leaves, opensTo}
 use Rattle.context.specs.declared.seen.Way.{Way}
-use Rattle.context.specs.declared.seen.Opening.{Opening}
-use Rattle.context.specs.declared.seen.Opening.the-variants as opening
-use Rattle.context.specs.declared.seen.TypeOpening.the-variants as typeOpening
 
 -- a flag that is one bit
 one-bit : (d p : ℕ) → d < 2 → 0 < p → not (eqb (d * p) 0) ≡ eqb d 1
@@ -116,37 +109,23 @@ keys-length l = length-map l keyOf
 
 -- what an opening comes to
 module _ (p : Pen) (list : List ℕ) (left : ℕ) (w : Way) (i : ℕ) where
-  pub opens-idle : idle (readPen p .stop) ≡ true → leaves list (opening.Stopped p) ≡ opensTo p list left w i
+  pub opens-idle : idle (readPen p .stop) ≡ true → leaves list p ≡ opensTo p list left w i
   unfolding opensTo
   opens-idle a = rw a
 
   module _ (a : idle (readPen p .stop) ≡ false) where
-    pub opens-again : (q : Pen) → hasIndex i (keysOf (drop left list)) ≡ true → q ≡ refusedPen p (CircularTypeDefinition i) → leaves list (opening.Stopped q) ≡ opensTo p list left w i
+    pub opens-again : (q : Pen) → hasIndex i (keysOf (drop left list)) ≡ true → q ≡ refusedPen p (CircularTypeDefinition i) → leaves list q ≡ opensTo p list left w i
     unfolding opensTo
     opens-again q b e = rw (a, b, e, refused-alive p (CircularTypeDefinition i) a)
 
     module _ (b : hasIndex i (keysOf (drop left list)) ≡ false) where
-      pub opens-full : (q : Pen) → left ≡ 0 → q ≡ refusedPen p (TooManyOpen i) → leaves list (opening.Stopped q) ≡ opensTo p list left w i
+      pub opens-full : (q : Pen) → left ≡ 0 → q ≡ refusedPen p (TooManyOpen i) → leaves list q ≡ opensTo p list left w i
       unfolding opensTo
       opens-full q f e = rw (a, b, eq-eqb left 0 f, e, refused-alive p (TooManyOpen i) a)
 
-      pub opens-in : (x : ℕ) → (left ≡ 0 → ⊥) → x ≡ wayOf w → leaves (set list (left - 1) (x * 4_294_967_296 + i)) (opening.Open p (left - 1)) ≡ opensTo p list left w i
+      pub opens-in : (x : ℕ) → (left ≡ 0 → ⊥) → x ≡ wayOf w → leaves (set list (left - 1) (x * 4_294_967_296 + i)) p ≡ opensTo p list left w i
       unfolding opensTo
       opens-in x f g = rw (a, b, ne-eqb left 0 f, g)
-
--- an index that is opened, then read
-module _ {l : List ℕ} {r : Opening} {x : Leaves Opening} {y z : TypeRead} (e : leaves l r ≡ x) where
-  pub typed-open : {q : Pen} {n : ℕ} {t : TypeData} → r ≡ opening.Open q n → y ≡ z → y ≡ typeRead.Good t → leaves l (typeOpening.Open q n t) ≡ opensTypeTo z x
-  unfolding opensTypeTo openedTo readTo
-  typed-open f g h = rw (← e, f, ← g, h)
-
-  pub typed-bad : {q u : Pen} {n : ℕ} {f : Refusal} → r ≡ opening.Open q n → y ≡ z → y ≡ typeRead.Refused f → u ≡ unreadPen q f → leaves l (typeOpening.Stopped u) ≡ opensTypeTo z x
-  unfolding opensTypeTo openedTo readTo
-  typed-bad f g h k = rw (← e, f, ← g, h, k)
-
-pub typed-stopped : {l : List ℕ} {r : Opening} {x : Leaves Opening} {q : Pen} (z : TypeRead) → leaves l r ≡ x → r ≡ opening.Stopped q → leaves l (typeOpening.Stopped q) ≡ opensTypeTo z x
-unfolding opensTypeTo openedTo
-typed-stopped z e f = rw (← e, f)
 
 -- one level of an array more, and how many more may follow
 pub pushed-left : (o : Dimensions) (x n : ℕ) → o .left ≡ suc n → pushedDimension o x .left ≡ n

@@ -12,7 +12,6 @@ use Rattle.wire.specs.Field.{pick}
 use Rattle.streams.specs.Refusal.{numberOf, detailOf}
 use Rattle.streams.specs.declared.refusal.Refusal.{Refusal}
 use Rattle.streams.specs.declared.refusal.Refusal.the-variants.{CircularTypeDefinition, TooManyOpen}
-use Rattle.codeview.specs.Read.{readTypeIn}
 use Rattle.codeview.specs.declared.record.TypeData.{TypeData}
 use Rattle.codeview.specs.declared.record.TypeRead.{TypeRead}
 use Rattle.codeview.specs.declared.record.TypeRead.the-variants as typeRead
@@ -25,17 +24,13 @@ use Rattle.rules.specs.Record.{Record, good, bad, Table, typeContents, typeAsRe
 use Rattle.rules.specs.Task.{Task, Rule, inside, unread}
 use Rattle.rules.specs.Opening.{sameIndex, entryOf, body, rank, walked, ruled}
 use Rattle.rules.proofs.Rank.{ranked}
-use Rattle.pen.specs.Page.{Page, page, Wrote, Caught, readPen, idle, gone, unreadPen, unreadTrace, writing, lastSince, step, opened, stopOf, _⨾_, ending, marking}
+use Rattle.pen.specs.Page.{Page, page, Wrote, Caught, readPen, idle, gone, unreadTrace, writing, lastSince, step, opened, stopOf, _⨾_, ending, marking}
 use Rattle.pen.specs.declared.Pen.{Pen}
-use Rattle.pen.proofs.Laws.{_▸_, wrote-by, wrote-ending, wrote-marking, wrote-length, wrote-idle, wrote-stop, wrote-opened, wrote-unread, refused-alive}
+use Rattle.pen.proofs.Laws.{_▸_, wrote-by, wrote-ending, wrote-marking, wrote-length, wrote-idle, wrote-stop, wrote-opened, refused-alive}
 use Rattle.context.specs.declared.flags.Call.{Call}
 use Rattle.context.specs.declared.seen.Way.{Way}
-use Rattle.context.specs.declared.seen.Opening.{Opening}
-use Rattle.context.specs.declared.seen.Opening.the-variants as opening
-use Rattle.context.specs.declared.seen.TypeOpening.{TypeOpening}
-use Rattle.context.specs.declared.seen.TypeOpening.the-variants as typeOpening
 use Rattle.context.specs.Context.{settingsOf, keysOf, hasIndex, holding}
-use Rattle.context.specs.Opening.{wayOf, noted, Leaves, leaves, opensTo, Opens, readTo, openedTo, opensTypeTo, OpensType, Writes}
+use Rattle.context.specs.Opening.{wayOf, noted, Leaves, leaves, opensTo, Opens, Writes}
 use Rattle.context.proofs.Laws.{keys-push, keys-length, drop-push}
 
 -- An index is open whatever the way.
@@ -61,11 +56,9 @@ module _ (c : Settings) (t : Table) (h : Held) where
   unfolding unread unreadTrace ruled exec
   unread-is f = sym (ruled-pick (eqb (numberOf f) 8) (trace.miss (detailOf f)) (refuse f))
 
-shut : {q u : Pen} {n : ℕ} → opening.Stopped u ≡ opening.Open q n → ⊥
-shut e = let z : _≡_ {A = ℕ} 0 1 = cc in omega arith
-
-stopped-same : {q u : Pen} → opening.Stopped q ≡ opening.Stopped u → q ≡ u
-stopped-same e = cc
+-- A pen that has stopped is no pen that goes on.
+alive : (q : Pen) → idle (readPen q .stop) ≡ true → idle (readPen q .stop) ≡ false → ⊥
+alive q e f = let z : _≡_ {A = ℕ} 0 1 = cc in omega arith
 
 -- What is known of an index that was opened in a list of 96: there was room, it comes right before the others, which stay, and the pen is as it was.
 pub record In (p : Pen) (list : List ℕ) (left : ℕ) (w : Way) (i : ℕ) (l : List ℕ) (q : Pen) (n : ℕ) : Type 0 where
@@ -78,39 +71,41 @@ pub record In (p : Pen) (list : List ℕ) (left : ℕ) (w : Way) (i : ℕ) (l : 
   pub pen : q ≡ p
   pub small : i < 4_294_967_296
 
-module _ {p : Pen} {list : List ℕ} {left : ℕ} {w : Way} {i : ℕ} {l : List ℕ} {r : Opening} (s : Opens p list left w i l r) (room : length list ≡ 96) (low : left ≤ 96) where
-  pub open-in : {q : Pen} {n : ℕ} → r ≡ opening.Open q n → In p list left w i l q n
+module _ {p : Pen} {list : List ℕ} {left : ℕ} {w : Way} {i : ℕ} {l : List ℕ} {q : Pen} (s : Opens p list left w i l q) (room : length list ≡ 96) (low : left ≤ 96) where
+  pub open-in : idle (readPen q .stop) ≡ false → In p list left w i l q (left - 1)
   unfolding opensTo
-  open-in {q} {n} e = by (idle (readPen p .stop)) (hasIndex i (keysOf (drop left list))) (eqb left 0) refl refl (s .is)
+  open-in e = by (idle (readPen p .stop)) (hasIndex i (keysOf (drop left list))) (eqb left 0) refl refl refl (s .is)
     where
-      by : (a b f : Bool) → hasIndex i (keysOf (drop left list)) ≡ b → eqb left 0 ≡ f
-          → leaves l r
-          ≡ pick a (leaves list (opening.Stopped p))
-          (pick b (leaves list (opening.Stopped (gone (p .limit) (CircularTypeDefinition i))))
-          (pick f (leaves list (opening.Stopped (gone (p .limit) (TooManyOpen i))))
-          (leaves (set list (left - 1) (noted w i)) (opening.Open p (left - 1)))))
-          → In p list left w i l q n
-      by true b f x y k = absurd (shut (sym (ap (λ (a : Leaves Opening). a .answer) k) ∙ e))
-      by false true f x y k = absurd (shut (sym (ap (λ (a : Leaves Opening). a .answer) k) ∙ e))
-      by false false true x y k = absurd (shut (sym (ap (λ (a : Leaves Opening). a .answer) k) ∙ e))
-      by false false false x y k =
-          let on : l ≡ set list (left - 1) (noted w i) = ap (λ (a : Leaves Opening). a .list) k in
-          let so : r ≡ opening.Open p (left - 1) = ap (λ (a : Leaves Opening). a .answer) k in
+      by : (a b f : Bool) → idle (readPen p .stop) ≡ a → hasIndex i (keysOf (drop left list)) ≡ b → eqb left 0 ≡ f
+          → leaves l q
+          ≡ pick a (leaves list p)
+          (pick b (leaves list (gone (p .limit) (CircularTypeDefinition i)))
+          (pick f (leaves list (gone (p .limit) (TooManyOpen i)))
+          (leaves (set list (left - 1) (noted w i)) p)))
+          → In p list left w i l q (left - 1)
+      by true b f v x y k =
+          let same : q ≡ p = ap (λ (a : Leaves). a .pen) k in
+          absurd (alive q (ap (λ (u : Pen). idle (readPen u .stop)) same ∙ v) e)
+      by false true f v x y k =
+          let same : q ≡ gone (p .limit) (CircularTypeDefinition i) = ap (λ (a : Leaves). a .pen) k in
+          absurd (alive q (ap (λ (u : Pen). idle (readPen u .stop)) same) e)
+      by false false true v x y k =
+          let same : q ≡ gone (p .limit) (TooManyOpen i) = ap (λ (a : Leaves). a .pen) k in
+          absurd (alive q (ap (λ (u : Pen). idle (readPen u .stop)) same) e)
+      by false false false v x y k =
+          let on : l ≡ set list (left - 1) (noted w i) = ap (λ (a : Leaves). a .list) k in
           let some : left ≡ 0 → ⊥ = eqb-false left 0 y in
           let h : 0 < left = omega arith in
-          let many : n ≡ left - 1 = cc in
-          let next : n + 1 ≡ left = omega arith in
           let size : length (drop left list) ≡ length list - left = length-drop left list in
-          let few : length (drop left list) < 96 = omega arith in
           let below : left - 1 < left = omega arith in
           record {
             free = x;
-            few = few;
-            next = next;
+            few = omega arith;
+            next = omega arith;
             all = ap length on ∙ length-set list (left - 1) (noted w i) ∙ room;
-            first = rw (many, on) (drop-push list left (noted w i) h (omega arith));
+            first = rw on (drop-push list left (noted w i) h (omega arith));
             kept = ap (drop left) on ∙ drop-set-lt left list (left - 1) (noted w i) below;
-            pen = cc;
+            pen = ap (λ (a : Leaves). a .pen) k;
             small = s .small;
           }
 
@@ -120,28 +115,6 @@ in-kept {left = left} {l = l} {n = n} m k e =
     let a : drop 1 (drop n m) ≡ drop left m = drop-drop 1 n m ∙ ap (λ (j : ℕ). drop j m) (k .next) in
     let b : drop 1 (drop n l) ≡ drop left l = drop-drop 1 n l ∙ ap (λ (j : ℕ). drop j l) (k .next) in
     sym a ∙ ap (drop 1) e ∙ b ∙ k .kept
-
-never : {q u : Pen} {n : ℕ} {d : TypeData} → typeOpening.Open q n d ≡ typeOpening.Stopped u → ⊥
-never e = let z : _≡_ {A = ℕ} 0 1 = cc in omega arith
-
--- What is known of an index that was opened and read.
-pub type-in : {types bounds places : List ℕ} {p : Pen} {list : List ℕ} {left : ℕ} {w : Way} {i : ℕ} {l : List ℕ} {r : TypeOpening} {q : Pen} {n : ℕ} {d : TypeData}
-    → OpensType types bounds places p list left w i l r → length list ≡ 96 → left ≤ 96 → r ≡ typeOpening.Open q n d → In p list left w i l q n × (readTypeIn types bounds places i ≡ typeRead.Good d)
-unfolding opensTypeTo openedTo readTo
-type-in {types} {bounds} {places} {p} {list} {left} {w} {i} {l} {r} {q} {n} {d} z room low f =
-    by (opensTo p list left w i .answer) (opensTo p list left w i .list) (readTypeIn types bounds places i) refl refl (ap (λ (y : TypeOpening). leaves l y) (sym f) ∙ z .is)
-  where
-    by : (a : Opening) (m : List ℕ) (y : TypeRead) → leaves m a ≡ opensTo p list left w i → readTypeIn types bounds places i ≡ y → leaves l (typeOpening.Open q n d) ≡ leaves m (openedTo y a)
-        → In p list left w i l q n × (readTypeIn types bounds places i ≡ typeRead.Good d)
-    by (opening.Open u k) m (typeRead.Good a) g h v =
-        let same : m ≡ l = sym (ap (λ (a : Leaves TypeOpening). a .list) v) in
-        let so : typeOpening.Open q n d ≡ typeOpening.Open u k a = ap (λ (a : Leaves TypeOpening). a .answer) v in
-        let pen : u ≡ q = cc in
-        let many : k ≡ n = cc in
-        let what : a ≡ d = cc in
-        (open-in (record { is = rw (same, pen, many) at g; small = z .small }) room low refl, h ∙ ap typeRead.Good what)
-    by (opening.Open u k) m (typeRead.Refused a) g h v = absurd (never (ap (λ (a : Leaves TypeOpening). a .answer) v))
-    by (opening.Stopped u) m y g h v = absurd (never (ap (λ (a : Leaves TypeOpening). a .answer) v))
 
 -- What is written without the list, and the same writing by what was open at another time.
 pub plain : {left : ℕ} {list : List ℕ} {g h : Page} {t : Trace Refusal} → Wrote g t h → Writes left list list g (λ o. t) h
@@ -226,39 +199,40 @@ module _ (s : List ℕ) (d : Lent) (call : Call) where
     walk o = walked c t (holding call o) x
 
     -- It is not opened: 12, or 13, or the pen had stopped before.
-    walk-out : {p q : Pen} (l b : List ℕ) → length list ≡ 96 → left ≤ 96 → leaves l (opening.Stopped q) ≡ opensTo p list left w i → Writes left list l (page b p) walk (page b q)
+    pub stopped-then : {p q : Pen} {l : List ℕ} (b : List ℕ) → Opens p list left w i l q → length list ≡ 96 → left ≤ 96 → idle (readPen q .stop) ≡ true
+        → Writes left list l (page b p) walk (page b q)
     unfolding opensTo stopOf
-    walk-out {p} {q} l b room low k =
-        by (idle (readPen p .stop)) (hasIndex i (keysOf (drop left list))) (eqb left 0) refl refl refl k
+    stopped-then {p} {q} {l} b s room low h =
+        by (idle (readPen p .stop)) (hasIndex i (keysOf (drop left list))) (eqb left 0) refl refl refl (s .is)
       where
         by : (y z f : Bool) → idle (readPen p .stop) ≡ y → hasIndex i (keysOf (drop left list)) ≡ z → eqb left 0 ≡ f
-            → leaves l (opening.Stopped q)
-            ≡ pick y (leaves list (opening.Stopped p))
-            (pick z (leaves list (opening.Stopped (gone (p .limit) (CircularTypeDefinition i))))
-            (pick f (leaves list (opening.Stopped (gone (p .limit) (TooManyOpen i))))
-            (leaves (set list (left - 1) (noted w i)) (opening.Open p (left - 1)))))
+            → leaves l q
+            ≡ pick y (leaves list p)
+            (pick z (leaves list (gone (p .limit) (CircularTypeDefinition i)))
+            (pick f (leaves list (gone (p .limit) (TooManyOpen i)))
+            (leaves (set list (left - 1) (noted w i)) p)))
             → Writes left list l (page b p) walk (page b q)
         by true z f a g j m =
-            let same : q ≡ p = stopped-same (ap (λ (a : Leaves Opening). a .answer) m) in
-            record { wrote = rw same (wrote-idle a); kept = ap (λ (a : Leaves Opening). drop left (a .list)) m }
+            let same : q ≡ p = ap (λ (a : Leaves). a .pen) m in
+            record { wrote = rw same (wrote-idle a); kept = ap (λ (a : Leaves). drop left (a .list)) m }
         by false true f a g j m =
-            let same : q ≡ gone (p .limit) (CircularTypeDefinition i) = stopped-same (ap (λ (a : Leaves Opening). a .answer) m) in
+            let same : q ≡ gone (p .limit) (CircularTypeDefinition i) = ap (λ (a : Leaves). a .pen) m in
             record {
               wrote = wrote-by (wrote-stop b p q (halted (again i)) 1 (CircularTypeDefinition i) refl (same ∙ sym (refused-alive p (CircularTypeDefinition i) a)))
                   (again-is (drop left list) x w i e g);
-              kept = ap (λ (a : Leaves Opening). drop left (a .list)) m;
+              kept = ap (λ (a : Leaves). drop left (a .list)) m;
             }
         by false false true a g j m =
-            let same : q ≡ gone (p .limit) (TooManyOpen i) = stopped-same (ap (λ (a : Leaves Opening). a .answer) m) in
+            let same : q ≡ gone (p .limit) (TooManyOpen i) = ap (λ (a : Leaves). a .pen) m in
             let none : left ≡ 0 = eqb-true left 0 j in
             let size : length (drop left list) ≡ length list - left = length-drop left list in
             let full : 96 ≤ length (drop left list) = omega arith in
             record {
               wrote = wrote-by (wrote-stop b p q (halted (deep i)) 1 (TooManyOpen i) refl (same ∙ sym (refused-alive p (TooManyOpen i) a)))
                   (deep-is (drop left list) x w i e g full);
-              kept = ap (λ (a : Leaves Opening). drop left (a .list)) m;
+              kept = ap (λ (a : Leaves). drop left (a .list)) m;
             }
-        by false false false a g j m = absurd (shut (ap (λ (a : Leaves Opening). a .answer) m))
+        by false false false a g j m = absurd (alive q h (ap (λ (l : Leaves). idle (readPen (l .pen) .stop)) m ∙ a))
 
     -- It is opened, and what is then done is done with it open: of a page, for an index that is opened by itself or in a list of its own.
     pub opened-then : {p q : Pen} {l m : List ℕ} {n : ℕ} {g : Page} (b : List ℕ) (k : Rule) → In p list left w i l q n → body c t x ≡ k
@@ -269,40 +243,14 @@ module _ (s : List ℕ) (d : Lent) (call : Call) where
           kept = in-kept m z (v .kept);
         }
 
-    pub stopped-then : {p q : Pen} {l : List ℕ} {r : Opening} (b : List ℕ) → Opens p list left w i l r → length list ≡ 96 → left ≤ 96 → r ≡ opening.Stopped q
-        → Writes left list l (page b p) walk (page b q)
-    stopped-then {p} {q} {l} b z room low f = walk-out l b room low (ap (λ (y : Opening). leaves l y) (sym f) ∙ z .is)
-
     -- And for one that is opened and then read: k is what the rule does with its record.
-    module _ (k : Record → Rule) (e₁ : body c t x ≡ inside (t .types i) k) {p : Pen} {l : List ℕ} {r : TypeOpening} (b : List ℕ)
-        (z : OpensType s (d .near .bounds) (d .near .places) p list left w i l r) (room : length list ≡ 96) (low : left ≤ 96) where
-      read-then : {u q : Pen} {m : List ℕ} {n : ℕ} (y : TypeRead) → y ≡ readNear s (d .near) i → leaves m (opening.Open u n) ≡ opensTo p list left w i
-          → leaves l (typeOpening.Stopped q) ≡ leaves m (readTo u n y) → Writes left list l (page b p) walk (page b q)
-      unfolding readTo
-      read-then (typeRead.Good d) f g v = absurd (never (sym (ap (λ (a : Leaves TypeOpening). a .answer) v)))
-      read-then {u} {q} {m} {n} (typeRead.Refused a) f g v =
-          let j : In p list left w i m u n = open-in (record { is = g; small = z .small }) room low refl in
-          let y : t .types i ≡ bad a = read-bad (drop left list) i (typeRead.Refused a) a f refl in
-          let so : typeOpening.Stopped q ≡ typeOpening.Stopped (unreadPen u a) = ap (λ (a : Leaves TypeOpening). a .answer) v in
-          let same : q ≡ unreadPen u a = cc in
-          let on : l ≡ m = ap (λ (a : Leaves TypeOpening). a .list) v in
-          opened-then b (unread a) j (e₁ ∙ rw y)
-          (record { wrote = wrote-by (wrote-unread b u q a same) (unread-is c t (holding call (drop n m)) a); kept = ap (drop n) on })
-
-      pub type-stopped : {q : Pen} → r ≡ typeOpening.Stopped q → Writes left list l (page b p) walk (page b q)
-      unfolding opensTypeTo openedTo
-      type-stopped {q} f = by (opensTo p list left w i .answer) (opensTo p list left w i .list) refl (ap (λ (y : TypeOpening). leaves l y) (sym f) ∙ z .is)
-        where
-          by : (a : Opening) (m : List ℕ) → leaves m a ≡ opensTo p list left w i → leaves l (typeOpening.Stopped q) ≡ leaves m (openedTo (readNear s (d .near) i) a)
-              → Writes left list l (page b p) walk (page b q)
-          by (opening.Open u n) m g v = read-then (readNear s (d .near) i) refl g v
-          by (opening.Stopped u) m g v =
-              let so : typeOpening.Stopped q ≡ typeOpening.Stopped u = ap (λ (a : Leaves TypeOpening). a .answer) v in
-              let same : u ≡ q = cc in
-              let on : m ≡ l = sym (ap (λ (a : Leaves TypeOpening). a .list) v) in
-              walk-out l b room low (rw (same, on) at g)
-
-      pub type-open : {q : Pen} {n : ℕ} {a : TypeData} {m : List ℕ} {g : Page} → r ≡ typeOpening.Open q n a → Writes n l m (page b q) (λ o. ruled c t (holding call o) (k (typeContents s a))) g
+    module _ (k : Record → Rule) (e₁ : body c t x ≡ inside (t .types i) k) {p q : Pen} {l : List ℕ} (b : List ℕ)
+        (z : Opens p list left w i l q) (room : length list ≡ 96) (low : left ≤ 96) (go : idle (readPen q .stop) ≡ false) {r : TypeRead} (y : r ≡ readNear s (d .near) i) where
+      pub type-open : {a : TypeData} {m : List ℕ} {g : Page} → r ≡ typeRead.Good a → Writes (left - 1) l m (page b q) (λ o. ruled c t (holding call o) (k (typeContents s a))) g
           → Writes left list m (page b p) walk g
-      type-open {q} {n} {a} f v =
-          opened-then b (k (typeContents s a)) (type-in z room low f .0) (e₁ ∙ rw (read-good (drop left list) i (readNear s (d .near) i) a refl (type-in z room low f .1))) v
+      type-open {a} f v = opened-then b (k (typeContents s a)) (open-in z room low go) (e₁ ∙ rw (read-good (drop left list) i r a y f)) v
+
+      pub type-bad : {f : Refusal} {g : Page} → r ≡ typeRead.Refused f → Wrote (page b q) (unreadTrace f) g → Writes left list l (page b p) walk g
+      type-bad {f} h v =
+          opened-then b (unread f) (open-in z room low go) (e₁ ∙ rw (read-bad (drop left list) i r f y h))
+          (unlent (wrote-by v (unread-is c t (holding call (drop (left - 1) l)) f)))

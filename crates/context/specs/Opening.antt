@@ -7,19 +7,12 @@ use lib.Dec.{eqb}
 use Rattle.wire.specs.Field.{pick}
 use Rattle.streams.specs.declared.refusal.Refusal.{Refusal}
 use Rattle.streams.specs.declared.refusal.Refusal.the-variants.{CircularTypeDefinition, TooManyOpen}
-use Rattle.codeview.specs.Read.{readTypeIn}
-use Rattle.codeview.specs.declared.record.TypeRead.{TypeRead}
-use Rattle.codeview.specs.declared.record.TypeRead.the-variants as typeRead
 use Rattle.interpreter.specs.Trace.{Trace}
-use Rattle.pen.specs.Page.{Page, Wrote, readPen, idle, gone, unreadPen}
+use Rattle.pen.specs.Page.{Page, Wrote, readPen, idle, gone}
 use Rattle.pen.specs.declared.Pen.{Pen}
 use Rattle.context.specs.Context.{keysOf, hasIndex}
 use Rattle.context.specs.declared.seen.Way.{Way}
 use Rattle.context.specs.declared.seen.Way.the-variants as way
-use Rattle.context.specs.declared.seen.Opening.{Opening}
-use Rattle.context.specs.declared.seen.Opening.the-variants as opening
-use Rattle.context.specs.declared.seen.TypeOpening.{TypeOpening}
-use Rattle.context.specs.declared.seen.TypeOpening.the-variants as typeOpening
 
 -- The numbers by which the rules tell the ways apart.
 abbrev pub wayOf : Way → ℕ
@@ -34,42 +27,25 @@ wayOf way.List = 5
 abbrev pub noted : Way → ℕ → ℕ
 noted w i = wayOf w * 4_294_967_296 + i
 
--- The list at exit with the answer.
-pub record Leaves (A : Type 0) : Type 0 where
+-- The list at exit with the pen.
+pub record Leaves : Type 0 where
   pub list : List ℕ
-  pub answer : A
+  pub pen : Pen
 
-abbrev pub leaves : {A : Type 0} → List ℕ → A → Leaves A
-leaves l r = record { list = l; answer = r }
+abbrev pub leaves : List ℕ → Pen → Leaves
+leaves l q = record { list = l; pen = q }
 
--- A stopped pen opens nothing; "12 is tested before 13"; an index that is opened is written right below those that are open, which begin there then.
-unfoldable pub opensTo : Pen → List ℕ → ℕ → Way → ℕ → Leaves Opening
+-- A stopped pen opens nothing; "12 is tested before 13"; an index that is opened is written right below those that are open, and the pen is as it was.
+unfoldable pub opensTo : Pen → List ℕ → ℕ → Way → ℕ → Leaves
 opensTo p list left w i =
-    pick (idle (readPen p .stop)) (leaves list (opening.Stopped p))
-    (pick (hasIndex i (keysOf (drop left list))) (leaves list (opening.Stopped (gone (p .limit) (CircularTypeDefinition i))))
-    (pick (eqb left 0) (leaves list (opening.Stopped (gone (p .limit) (TooManyOpen i))))
-    (leaves (set list (left - 1) (noted w i)) (opening.Open p (left - 1)))))
+    pick (idle (readPen p .stop)) (leaves list p)
+    (pick (hasIndex i (keysOf (drop left list))) (leaves list (gone (p .limit) (CircularTypeDefinition i)))
+    (pick (eqb left 0) (leaves list (gone (p .limit) (TooManyOpen i)))
+    (leaves (set list (left - 1) (noted w i)) p)))
 
 -- What `open_index` leaves; the index is a u32.
-pub record Opens (p : Pen) (list : List ℕ) (left : ℕ) (w : Way) (i : ℕ) (l : List ℕ) (r : Opening) : Type 0 where
-  pub is : leaves l r ≡ opensTo p list left w i
-  pub small : i < 4_294_967_296
-
--- "Opened, then read": what follows from the opening and from what the index stands for.
-unfoldable pub readTo : Pen → ℕ → TypeRead → TypeOpening
-readTo q n (typeRead.Good t) = typeOpening.Open q n t
-readTo q n (typeRead.Refused f) = typeOpening.Stopped (unreadPen q f)
-
-unfoldable pub openedTo : TypeRead → Opening → TypeOpening
-openedTo r (opening.Open q n) = readTo q n r
-openedTo r (opening.Stopped q) = typeOpening.Stopped q
-
-unfoldable pub opensTypeTo : TypeRead → Leaves Opening → Leaves TypeOpening
-opensTypeTo r x = leaves (x .list) (openedTo r (x .answer))
-
--- What `open_type` leaves.
-pub record OpensType (types bounds places : List ℕ) (p : Pen) (list : List ℕ) (left : ℕ) (w : Way) (i : ℕ) (l : List ℕ) (r : TypeOpening) : Type 0 where
-  pub is : leaves l r ≡ opensTypeTo (readTypeIn types bounds places i) (opensTo p list left w i)
+pub record Opens (p : Pen) (list : List ℕ) (left : ℕ) (w : Way) (i : ℕ) (l : List ℕ) (q : Pen) : Type 0 where
+  pub is : leaves l q ≡ opensTo p list left w i
   pub small : i < 4_294_967_296
 
 -- What a writer leaves that is lent the list: the page h is what the trace makes of the page g, by those that are open; and these stay as they are, at exit too.

@@ -7,11 +7,8 @@ ghost use Prim.Native.Nat.{_+_, _≤_, _<_};
 ghost use lib.ListN.{length, drop};
 ghost use Rattle.wire.specs.Field.{pick};
 ghost use Rattle.context.specs.Context.{keysOf, hasIndex};
-ghost use Rattle.context.specs.Opening.{wayOf, Opens, OpensType};
+ghost use Rattle.context.specs.Opening.{wayOf, Opens};
 use codeview::index::TypeIndex;
-use codeview::record::TypeData;
-use codeview::record::TypeRead;
-use codeview::types::type_at;
 use pen::Pen;
 use streams::refusal::Refusal;
 
@@ -24,18 +21,6 @@ pub enum Way {
     TargetOfModifier,
     Modified,
     List,
-}
-
-// What an opening comes to: the index is open, the pen is as it was, and this is where the open ones begin now; or nothing is opened, and the pen has stopped.
-pub enum Opening {
-    Open(Pen, usize),
-    Stopped(Pen),
-}
-
-// An index that is opened and then read: the same with its type, or the pen that has stopped.
-pub enum TypeOpening {
-    Open(Pen, usize, TypeData),
-    Stopped(Pen),
 }
 
 fn has_from(seen: &[u64], left: usize, index: u32) -> bool
@@ -104,44 +89,22 @@ fn way_number(way: Way) -> u64
     }
 }
 
-// Opens an index in a list, where those from `left` on are open: 12 where it is one of them, 13 where the list has no room for one more.
-pub fn open_index(p: Pen, seen: &mut [u64], left: usize, way: Way, index: TypeIndex) -> Opening
+// Opens an index in a list, where those from `left` on are open: it is written right below them, and the pen is as it was. Or nothing is opened and the
+// pen has stopped: with 12 where the index is open, with 13 where the list has no room for one more.
+pub fn open_index(p: Pen, seen: &mut [u64], left: usize, way: Way, index: TypeIndex) -> Pen
     requires { ⌜ left ≤ length (now seen) ⌝ }
     ensures { λ r. ⌜ Opens p (now (seen .entry)) left way (index .0) (now (seen .exit)) r ⌝ }
 {
     if pen::is_idle(p) {
-        return Opening::Stopped(p);
+        return p;
     }
     if has(seen, left, index.0) {
-        return Opening::Stopped(pen::stopped(p, Refusal::CircularTypeDefinition(index.0)));
+        return pen::stopped(p, Refusal::CircularTypeDefinition(index.0));
     }
     if left == 0 {
-        return Opening::Stopped(pen::stopped(p, Refusal::TooManyOpen(index.0)));
+        return pen::stopped(p, Refusal::TooManyOpen(index.0));
     }
     let number = way_number(way);
     seen[left - 1] = number * 4_294_967_296 + (index.0 as u64);
-    Opening::Open(p, left - 1)
-}
-
-// Opens an index, then reads it. A missing one ends the text.
-pub fn open_type(
-    types: &[u8],
-    bounds: &[u32],
-    places: &[u32],
-    p: Pen,
-    seen: &mut [u64],
-    left: usize,
-    way: Way,
-    index: TypeIndex,
-) -> TypeOpening
-    requires { ⌜ left ≤ length (now seen) ⌝ }
-    ensures { λ r. ⌜ OpensType (now (types .entry)) (now (bounds .entry)) (now (places .entry)) p (now (seen .entry)) left way (index .0) (now (seen .exit)) r ⌝ }
-{
-    match open_index(p, seen, left, way, index) {
-        Opening::Open(q, n) => match type_at(types, bounds, places, index) {
-            TypeRead::Good(t) => TypeOpening::Open(q, n, t),
-            TypeRead::Refused(f) => TypeOpening::Stopped(pen::unreadable(q, f)),
-        },
-        Opening::Stopped(q) => TypeOpening::Stopped(q),
-    }
+    p
 }

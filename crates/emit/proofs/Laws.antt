@@ -102,13 +102,9 @@ use Rattle.pen.proofs.Laws.{_▹_, _▸_, wrote-as, wrote-step, wrote-idle, wro
 use Rattle.context.specs.declared.flags.Call.{Call}
 use Rattle.context.specs.declared.seen.Way.{Way}
 use Rattle.context.specs.declared.seen.Way.the-variants as way
-use Rattle.context.specs.declared.seen.Opening.{Opening}
-use Rattle.context.specs.declared.seen.Opening.the-variants as opening
-use Rattle.context.specs.declared.seen.TypeOpening.{TypeOpening}
-use Rattle.context.specs.declared.seen.TypeOpening.the-variants as typeOpening
 use Rattle.context.specs.Context.{settingsOf, holding, sizesOf}
-use Rattle.context.specs.Opening.{wayOf, Opens, OpensType, Writes}
-use Rattle.context.proofs.Opening.{ruled-pick, unread-is, read-good, read-bad, walk-on, open-in, opened-then, stopped-then, type-stopped, type-open, writes-by}
+use Rattle.context.specs.Opening.{wayOf, Opens, Writes}
+use Rattle.context.proofs.Opening.{ruled-pick, unread-is, read-good, read-bad, walk-on, open-in, opened-then, stopped-then, type-open, type-bad, writes-by}
 use Rattle.leaf_writers.specs.Marks.{markTrace}
 use Rattle.leaf_writers.specs.Fragments.{recordText, isSign}
 use Rattle.queries.specs.This.{thisOf, byThis}
@@ -502,8 +498,8 @@ module _ (s : List ℕ) (d : Lent) (call : Call) (list : List ℕ) (left : ℕ) 
   t₁ = tableIn s d
 
   -- An index by itself that was read.
-  module _ {r : TypeRead} {x : TypeData} {i : ℕ} (b : List ℕ) (e : r ≡ readNear s (d .near) i) (g : r ≡ Good x) {p : Pen} {l : List ℕ} {y : Opening}
-      (z : Opens p list left way.Itself i l y) (room : length list ≡ 96) (low : left ≤ 96) where
+  module _ {r : TypeRead} {x : TypeData} {i : ℕ} (b : List ℕ) (e : r ≡ readNear s (d .near) i) (g : r ≡ Good x) {p q : Pen} {l : List ℕ}
+      (z : Opens p list left way.Itself i l q) (room : length list ≡ 96) (low : left ≤ 96) where
     self-entry : entryOf c₁ t₁ (byItself i) ≡ opens (key 1 i)
     unfolding entryOf afterRead
     self-entry = rw (read-good s d call (drop left list) i r x e g)
@@ -512,11 +508,11 @@ module _ (s : List ℕ) (d : Lent) (call : Call) (list : List ℕ) (left : ℕ) 
     unfolding body alone
     self-body = rw (read-good s d call (drop left list) i r x e g)
 
-    pub self-stopped : {q : Pen} → y ≡ opening.Stopped q → Writes left list l (page b p) (λ o. walked c₁ t₁ (holding call o) (byItself i)) (page b q)
+    pub self-stopped : idle (readPen q .stop) ≡ true → Writes left list l (page b p) (λ o. walked c₁ t₁ (holding call o) (byItself i)) (page b q)
     self-stopped f = stopped-then s d call list left (byItself i) way.Itself i self-entry b z room low f
 
-    pub self-open : {q : Pen} {n : ℕ} {m : List ℕ} {j : Page} → y ≡ opening.Open q n
-        → Writes n l m (page b q) (λ o. ruled c₁ t₁ (holding call o) (texted (typeText c₁ (typeContents s x)))) j → Writes left list m (page b p) (λ o. walked c₁ t₁ (holding call o) (byItself i)) j
+    pub self-open : {m : List ℕ} {j : Page} → idle (readPen q .stop) ≡ false
+        → Writes (left - 1) l m (page b q) (λ o. ruled c₁ t₁ (holding call o) (texted (typeText c₁ (typeContents s x)))) j → Writes left list m (page b p) (λ o. walked c₁ t₁ (holding call o) (byItself i)) j
     self-open f v = opened-then s d call list left (byItself i) way.Itself i self-entry b (texted (typeText c₁ (typeContents s x))) (open-in z room low f) self-body v
 
   -- A pointer's target, and that of a pointer's modifier.
@@ -537,20 +533,23 @@ module _ (s : List ℕ) (d : Lent) (call : Call) (list : List ℕ) (left : ℕ) 
         by true = refl
         by false = refl
 
-    module _ {w : Way} {p : Pen} {l : List ℕ} {r : TypeOpening} (b : List ℕ) (u : w ≡ wayTo m) (z : OpensType s (d .near .bounds) (d .near .places) p list left w i l r) (room : length list ≡ 96) (low : left ≤ 96) where
-      way-is : OpensType s (d .near .bounds) (d .near .places) p list left (wayTo m) i l r
+    module _ {w : Way} {p q : Pen} {l : List ℕ} (b : List ℕ) (u : w ≡ wayTo m) (z : Opens p list left w i l q) (room : length list ≡ 96) (low : left ≤ 96) where
+      way-is : Opens p list left (wayTo m) i l q
       way-is = rw u at z
 
-      pub aimed-stopped : {q : Pen} → r ≡ typeOpening.Stopped q → Writes left list l (page b p) (λ o. walked c₁ t₁ (holding call o) (aimedAt m i ls)) (page b q)
-      aimed-stopped f = type-stopped s d call list left (aimedAt m i ls) (wayTo m) i aimed-entry (aimedRule c₁ m ls) aimed-body b way-is room low f
+      pub aimed-stopped : idle (readPen q .stop) ≡ true → Writes left list l (page b p) (λ o. walked c₁ t₁ (holding call o) (aimedAt m i ls)) (page b q)
+      aimed-stopped f = stopped-then s d call list left (aimedAt m i ls) (wayTo m) i aimed-entry b way-is room low f
 
-      pub aimed-open : {q : Pen} {n : ℕ} {x : TypeData} {k : List ℕ} {j : Page} → r ≡ typeOpening.Open q n x
-          → Writes n l k (page b q) (λ o. ruled c₁ t₁ (holding call o) (aimedRule c₁ m ls (typeContents s x))) j → Writes left list k (page b p) (λ o. walked c₁ t₁ (holding call o) (aimedAt m i ls)) j
-      aimed-open f v = type-open s d call list left (aimedAt m i ls) (wayTo m) i aimed-entry (aimedRule c₁ m ls) aimed-body b way-is room low f v
+      module _ (go : idle (readPen q .stop) ≡ false) {r : TypeRead} (y : r ≡ readNear s (d .near) i) where
+        pub aimed-open : {x : TypeData} {k : List ℕ} {j : Page} → r ≡ Good x
+            → Writes (left - 1) l k (page b q) (λ o. ruled c₁ t₁ (holding call o) (aimedRule c₁ m ls (typeContents s x))) j → Writes left list k (page b p) (λ o. walked c₁ t₁ (holding call o) (aimedAt m i ls)) j
+        aimed-open f v = type-open s d call list left (aimedAt m i ls) (wayTo m) i aimed-entry (aimedRule c₁ m ls) aimed-body b way-is room low go y f v
+
+        pub aimed-bad : {f : Refusal} {j : Page} → r ≡ Refused f → Wrote (page b q) (unreadTrace f) j → Writes left list l (page b p) (λ o. walked c₁ t₁ (holding call o) (aimedAt m i ls)) j
+        aimed-bad f v = type-bad s d call list left (aimedAt m i ls) (wayTo m) i aimed-entry (aimedRule c₁ m ls) aimed-body b way-is room low go y f v
 
   -- Any other modifier's target.
-  module _ (i : ℕ) (n : Bool) {p : Pen} {l : List ℕ} {r : TypeOpening} (b : List ℕ) (z : OpensType s (d .near .bounds) (d .near .places) p list left way.Modified i l r) (room : length list ≡ 96)
-      (low : left ≤ 96) where
+  module _ (i : ℕ) (n : Bool) {p q : Pen} {l : List ℕ} (b : List ℕ) (z : Opens p list left way.Modified i l q) (room : length list ≡ 96) (low : left ≤ 96) where
     modified-entry : entryOf c₁ t₁ (modified i n) ≡ opens (key 4 i)
     unfolding entryOf
     modified-entry = refl
@@ -559,12 +558,16 @@ module _ (s : List ℕ) (d : Lent) (call : Call) (list : List ℕ) (left : ℕ) 
     unfolding body
     modified-body = refl
 
-    pub modified-stopped : {q : Pen} → r ≡ typeOpening.Stopped q → Writes left list l (page b p) (λ o. walked c₁ t₁ (holding call o) (modified i n)) (page b q)
-    modified-stopped f = type-stopped s d call list left (modified i n) way.Modified i modified-entry (modifiedText c₁ n) modified-body b z room low f
+    pub modified-stopped : idle (readPen q .stop) ≡ true → Writes left list l (page b p) (λ o. walked c₁ t₁ (holding call o) (modified i n)) (page b q)
+    modified-stopped f = stopped-then s d call list left (modified i n) way.Modified i modified-entry b z room low f
 
-    pub modified-open : {q : Pen} {k : ℕ} {x : TypeData} {m : List ℕ} {j : Page} → r ≡ typeOpening.Open q k x
-        → Writes k l m (page b q) (λ o. ruled c₁ t₁ (holding call o) (modifiedText c₁ n (typeContents s x))) j → Writes left list m (page b p) (λ o. walked c₁ t₁ (holding call o) (modified i n)) j
-    modified-open f v = type-open s d call list left (modified i n) way.Modified i modified-entry (modifiedText c₁ n) modified-body b z room low f v
+    module _ (go : idle (readPen q .stop) ≡ false) {r : TypeRead} (y : r ≡ readNear s (d .near) i) where
+      pub modified-open : {x : TypeData} {m : List ℕ} {j : Page} → r ≡ Good x
+          → Writes (left - 1) l m (page b q) (λ o. ruled c₁ t₁ (holding call o) (modifiedText c₁ n (typeContents s x))) j → Writes left list m (page b p) (λ o. walked c₁ t₁ (holding call o) (modified i n)) j
+      modified-open f v = type-open s d call list left (modified i n) way.Modified i modified-entry (modifiedText c₁ n) modified-body b z room low go y f v
+
+      pub modified-bad : {f : Refusal} {j : Page} → r ≡ Refused f → Wrote (page b q) (unreadTrace f) j → Writes left list l (page b p) (λ o. walked c₁ t₁ (holding call o) (modified i n)) j
+      modified-bad f v = type-bad s d call list left (modified i n) way.Modified i modified-entry (modifiedText c₁ n) modified-body b z room low go y f v
 
   -- A method's arguments.
   module _ (m : Method) (closes : Bool) where
@@ -576,14 +579,18 @@ module _ (s : List ℕ) (d : Lent) (call : Call) (list : List ℕ) (left : ℕ) 
     unfolding body
     list-body = refl
 
-    module _ (w : Bool) (e : w ≡ c₁ .noArguments) (g : w ≡ false) {p : Pen} {l : List ℕ} {r : TypeOpening} (b : List ℕ)
-        (z : OpensType s (d .near .bounds) (d .near .places) p list left way.List (m .list) l r) (room : length list ≡ 96) (low : left ≤ 96) where
-      pub args-stopped : {q : Pen} → r ≡ typeOpening.Stopped q → Writes left list l (page b p) (λ o. ruled c₁ t₁ (holding call o) (methodArguments c₁ m closes)) (page b q)
-      args-stopped f = writes-by (type-stopped s d call list left (listOf m closes) way.List (m .list) list-entry (methodList c₁ t₁ m closes) list-body b z room low f) (args-shown s d call (drop left list) m closes w e g)
+    module _ (w : Bool) (e : w ≡ c₁ .noArguments) (g : w ≡ false) {p q : Pen} {l : List ℕ} (b : List ℕ)
+        (z : Opens p list left way.List (m .list) l q) (room : length list ≡ 96) (low : left ≤ 96) where
+      pub args-stopped : idle (readPen q .stop) ≡ true → Writes left list l (page b p) (λ o. ruled c₁ t₁ (holding call o) (methodArguments c₁ m closes)) (page b q)
+      args-stopped f = writes-by (stopped-then s d call list left (listOf m closes) way.List (m .list) list-entry b z room low f) (args-shown s d call (drop left list) m closes w e g)
 
-      pub args-open : {q : Pen} {n : ℕ} {x : TypeData} {k : List ℕ} {j : Page} → r ≡ typeOpening.Open q n x
-          → Writes n l k (page b q) (λ o. ruled c₁ t₁ (holding call o) (methodList c₁ t₁ m closes (typeContents s x))) j → Writes left list k (page b p) (λ o. ruled c₁ t₁ (holding call o) (methodArguments c₁ m closes)) j
-      args-open f v = writes-by (type-open s d call list left (listOf m closes) way.List (m .list) list-entry (methodList c₁ t₁ m closes) list-body b z room low f v) (args-shown s d call (drop left list) m closes w e g)
+      module _ (go : idle (readPen q .stop) ≡ false) {r : TypeRead} (y : r ≡ readNear s (d .near) (m .list)) where
+        pub args-open : {x : TypeData} {k : List ℕ} {j : Page} → r ≡ Good x
+            → Writes (left - 1) l k (page b q) (λ o. ruled c₁ t₁ (holding call o) (methodList c₁ t₁ m closes (typeContents s x))) j → Writes left list k (page b p) (λ o. ruled c₁ t₁ (holding call o) (methodArguments c₁ m closes)) j
+        args-open f v = writes-by (type-open s d call list left (listOf m closes) way.List (m .list) list-entry (methodList c₁ t₁ m closes) list-body b z room low go y f v) (args-shown s d call (drop left list) m closes w e g)
+
+        pub args-bad : {f : Refusal} {j : Page} → r ≡ Refused f → Wrote (page b q) (unreadTrace f) j → Writes left list l (page b p) (λ o. ruled c₁ t₁ (holding call o) (methodArguments c₁ m closes)) j
+        args-bad f v = writes-by (type-bad s d call list left (listOf m closes) way.List (m .list) list-entry (methodList c₁ t₁ m closes) list-body b z room low go y f v) (args-shown s d call (drop left list) m closes w e g)
 
 -- What an array counts in the measure.
 pub arrayed-low : (x : TypeData) → arrayed x ≤ 1

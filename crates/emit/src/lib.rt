@@ -31,11 +31,8 @@ use context::levels::PtrAttributes;
 use context::levels::no_levels;
 use context::levels::over_pointee;
 use context::levels::push_level;
-use context::seen::Opening;
-use context::seen::TypeOpening;
 use context::seen::Way;
 use context::seen::open_index;
-use context::seen::open_type;
 use leaf_writers::attributes::emit_attributes;
 use leaf_writers::brackets::emit_brackets;
 use leaf_writers::fragments::both;
@@ -105,8 +102,13 @@ pub fn emit_method_args(
         return p;
     }
     let index = m.arguments;
-    match open_type(types, bounds, places, p, seen, left, Way::List, index) {
-        TypeOpening::Open(q, n, t) => {
+    let q = open_index(p, seen, left, Way::List, index);
+    if pen::is_idle(q) {
+        return q;
+    }
+    let n = left - 1;
+    match type_at(types, bounds, places, index) {
+        TypeRead::Good(t) => {
             let TypeData::ArgumentList(e) = t else {
                 return pen::refuse(out, q, Refusal::ArgumentTypeNotArgumentList(index.0));
             };
@@ -125,7 +127,7 @@ pub fn emit_method_args(
                 closes,
             )
         }
-        TypeOpening::Stopped(q) => q,
+        TypeRead::Refused(f) => pen::unread(out, q, f),
     }
 }
 
@@ -384,8 +386,13 @@ fn emit_ptr(
     ensures { λ r. ⌜ Writes left (now (seen .entry)) (now (seen .exit)) (page (now (out .entry)) p) (λ o. walking (now (types .entry)) (lent (now (ids .entry)) (now (bounds .entry)) (now (places .entry))) call o (aimedAt modified (index .0) (levelsOf levels))) (page (now (out .exit)) r) ⌝ }
 {
     let way = way_to(modified);
-    match open_type(types, bounds, places, p, seen, left, way, index) {
-        TypeOpening::Open(q, n, t) => match t {
+    let q = open_index(p, seen, left, way, index);
+    if pen::is_idle(q) {
+        return q;
+    }
+    let n = left - 1;
+    match type_at(types, bounds, places, index) {
+        TypeRead::Good(t) => match t {
             TypeData::Pointer(x) => {
                 let mode = x.mode;
                 let under = x.underlying;
@@ -440,7 +447,7 @@ fn emit_ptr(
             }
             _ => emit_ptr_helper(types, ids, bounds, places, out, q, call, seen, n, levels, t),
         },
-        TypeOpening::Stopped(q) => q,
+        TypeRead::Refused(f) => pen::unread(out, q, f),
     }
 }
 
@@ -559,8 +566,13 @@ fn emit_modifier(
     requires { ⌜ (length (now seen) ≡ 96) × (left ≤ 96) ⌝ }
     ensures { λ r. ⌜ Writes left (now (seen .entry)) (now (seen .exit)) (page (now (out .entry)) p) (λ o. walking (now (types .entry)) (lent (now (ids .entry)) (now (bounds .entry)) (now (places .entry))) call o (modified (index .0) constant)) (page (now (out .exit)) r) ⌝ }
 {
-    match open_type(types, bounds, places, p, seen, left, Way::Modified, index) {
-        TypeOpening::Open(q, n, t) => match t {
+    let q = open_index(p, seen, left, Way::Modified, index);
+    if pen::is_idle(q) {
+        return q;
+    }
+    let n = left - 1;
+    match type_at(types, bounds, places, index) {
+        TypeRead::Good(t) => match t {
             TypeData::Pointer(x) => {
                 let mode = x.mode;
                 let under = x.underlying;
@@ -586,7 +598,7 @@ fn emit_modifier(
                 emit_type(types, ids, bounds, places, out, a, call, seen, n, t)
             }
         },
-        TypeOpening::Stopped(q) => q,
+        TypeRead::Refused(f) => pen::unread(out, q, f),
     }
 }
 
@@ -644,21 +656,12 @@ pub fn emit_type_index(
     }
     match type_at(types, bounds, places, index) {
         TypeRead::Good(t) => {
-            match open_index(p, seen, left, Way::Itself, index) {
-                Opening::Open(q, n) => emit_type(
-                    types,
-                    ids,
-                    bounds,
-                    places,
-                    out,
-                    q,
-                    call,
-                    seen,
-                    n,
-                    t,
-                ),
-                Opening::Stopped(q) => q,
+            let q = open_index(p, seen, left, Way::Itself, index);
+            if pen::is_idle(q) {
+                return q;
             }
+            let n = left - 1;
+            emit_type(types, ids, bounds, places, out, q, call, seen, n, t)
         }
         TypeRead::Refused(f) => emit_mark(out, p, f),
     }

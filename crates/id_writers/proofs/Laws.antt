@@ -26,6 +26,8 @@ use Rattle.codeview.specs.declared.record.FunctionId.{FunctionId}
 use Rattle.codeview.specs.declared.record.MemberFunctionId.{MemberFunctionId}
 use Rattle.codeview.specs.declared.record.StringId.{StringId}
 use Rattle.codeview.specs.declared.record.TypeData.{TypeData}
+use Rattle.codeview.specs.declared.record.TypeRead.{TypeRead}
+use Rattle.codeview.specs.declared.record.TypeRead.the-variants as typeRead
 use Rattle.codeview.specs.declared.record.TypeData.the-variants as type
 use Rattle.codeview.specs.declared.record.IdData.{IdData}
 use Rattle.codeview.specs.declared.record.IdData.the-variants as id
@@ -75,7 +77,7 @@ use Rattle.rules.specs.Record.{
   nameAt,
   numbersAt,
 }
-use Rattle.rules.specs.Places.{tableBy, Lent, tableIn}
+use Rattle.rules.specs.Places.{tableBy, Lent, tableIn, readNear}
 use Rattle.rules.specs.Text.{functionName, stringText, unhandledScope}
 use Rattle.rules.specs.Task.{Task, byItself, functionOf, idOf, functionId, memberId, Rule, inside, unread, marked}
 use Rattle.rules.specs.Types.{result, procedureResult, returned, methodArguments, procedureArguments}
@@ -84,14 +86,12 @@ use Rattle.rules.specs.Ids.{functionText, scopeText, functionIdText, memberIdTe
 use Rattle.rules.specs.Opening.{afterRead, sameIndex, entryOf, body, rank, walked, ruled}
 use Rattle.rules.proofs.Rank.{ranked}
 use Rattle.pen.specs.declared.Pen.{Pen}
-use Rattle.pen.specs.Page.{Page, page, Wrote, writing, step, _⨾_}
+use Rattle.pen.specs.Page.{Page, page, Wrote, readPen, idle, unreadTrace, writing, step, _⨾_}
 use Rattle.context.specs.declared.flags.Call.{Call}
 use Rattle.context.specs.declared.seen.Way.the-variants as way
-use Rattle.context.specs.declared.seen.TypeOpening.{TypeOpening}
-use Rattle.context.specs.declared.seen.TypeOpening.the-variants as typeOpening
 use Rattle.context.specs.Context.{settingsOf, keysOf, holding}
-use Rattle.context.specs.Opening.{OpensType, Writes}
-use Rattle.context.proofs.Opening.{walk-on, type-stopped, type-open, wrote-first}
+use Rattle.context.specs.Opening.{Opens, Writes}
+use Rattle.context.proofs.Opening.{walk-on, stopped-then, type-open, type-bad, wrote-first}
 use Rattle.leaf_writers.specs.Marks.{markTrace}
 use Rattle.leaf_writers.specs.Fragments.{staticText}
 use Rattle.emit.specs.Walking.{methodOf}
@@ -220,18 +220,20 @@ module _ (s : List ℕ) (d : Lent) (call : Call) where
   function-body zero name n = absurd (n refl)
   function-body (suc i) name n = refl
 
-  module _ (i : ℕ) (name : List ℕ) (n : i ≡ 0 → ⊥) {p : Pen} {list l : List ℕ} {r : TypeOpening} (b : List ℕ)
-      (z : OpensType s (d .near .bounds) (d .near .places) p list 96 way.Function i l r) (room : length list ≡ 96) where
-    pub function-stopped : {q : Pen} → r ≡ typeOpening.Stopped q → Wrote (page b p) (walked c t h (functionOf i name)) (page b q)
-    function-stopped f = wrote-first (type-stopped s d call _ 96 (functionOf i name) way.Function i (function-entry i name n) (functionText c name) (function-body i name n) b z room (omega arith) f) room
+  module _ (i : ℕ) (name : List ℕ) (n : i ≡ 0 → ⊥) {p q : Pen} {list l : List ℕ} (b : List ℕ)
+      (z : Opens p list 96 way.Function i l q) (room : length list ≡ 96) where
+    pub function-stopped : idle (readPen q .stop) ≡ true → Wrote (page b p) (walked c t h (functionOf i name)) (page b q)
+    function-stopped f = wrote-first (stopped-then s d call _ 96 (functionOf i name) way.Function i (function-entry i name n) b z room (omega arith) f) room
 
-    pub function-open : {q : Pen} {k : ℕ} {x : TypeData} {m : List ℕ} {j : Page} → r ≡ typeOpening.Open q k x
-        → Writes k l m (page b q) (λ o. ruled c t (holding call o) (functionText c name (typeContents s x))) j → Wrote (page b p) (walked c t h (functionOf i name)) j
-    function-open f v = wrote-first (type-open s d call _ 96 (functionOf i name) way.Function i (function-entry i name n) (functionText c name) (function-body i name n) b z room (omega arith) f v) room
+    module _ (go : idle (readPen q .stop) ≡ false) {r : TypeRead} (y : r ≡ readNear s (d .near) i) where
+      pub function-open : {x : TypeData} {m : List ℕ} {j : Page} → r ≡ typeRead.Good x → Writes 95 l m (page b q) (λ o. ruled c t (holding call o) (functionText c name (typeContents s x))) j → Wrote (page b p) (walked c t h (functionOf i name)) j
+      function-open f v = wrote-first (type-open s d call _ 96 (functionOf i name) way.Function i (function-entry i name n) (functionText c name) (function-body i name n) b z room (omega arith) go y f v) room
+
+      pub function-bad : {f : Refusal} {j : Page} → r ≡ typeRead.Refused f → Wrote (page b q) (unreadTrace f) j → Wrote (page b p) (walked c t h (functionOf i name)) j
+      function-bad f v = wrote-first (type-bad s d call _ 96 (functionOf i name) way.Function i (function-entry i name n) (functionText c name) (function-body i name n) b z room (omega arith) go y f v) room
 
   -- A member function id, and a function id.
-  module _ (i : ℕ) (name : List ℕ) {p : Pen} {list l : List ℕ} {r : TypeOpening} (b : List ℕ) (z : OpensType s (d .near .bounds) (d .near .places) p list 96 way.Function i l r)
-      (room : length list ≡ 96) where
+  module _ (i : ℕ) (name : List ℕ) {p q : Pen} {list l : List ℕ} (b : List ℕ) (z : Opens p list 96 way.Function i l q) (room : length list ≡ 96) where
     module _ (parent : ℕ) where
       member-entry : entryOf c t (memberId parent i name) ≡ opens (key 0 i)
       unfolding entryOf
@@ -241,12 +243,15 @@ module _ (s : List ℕ) (d : Lent) (call : Call) where
       unfolding body
       member-body = refl
 
-      pub member-stopped : {q : Pen} → r ≡ typeOpening.Stopped q → Wrote (page b p) (walked c t h (memberId parent i name)) (page b q)
-      member-stopped f = wrote-first (type-stopped s d call _ 96 (memberId parent i name) way.Function i member-entry (memberIdText c parent i name) member-body b z room (omega arith) f) room
+      pub member-stopped : idle (readPen q .stop) ≡ true → Wrote (page b p) (walked c t h (memberId parent i name)) (page b q)
+      member-stopped f = wrote-first (stopped-then s d call _ 96 (memberId parent i name) way.Function i member-entry b z room (omega arith) f) room
 
-      pub member-open : {q : Pen} {k : ℕ} {x : TypeData} {m : List ℕ} {j : Page} → r ≡ typeOpening.Open q k x
-          → Writes k l m (page b q) (λ o. ruled c t (holding call o) (memberIdText c parent i name (typeContents s x))) j → Wrote (page b p) (walked c t h (memberId parent i name)) j
-      member-open f v = wrote-first (type-open s d call _ 96 (memberId parent i name) way.Function i member-entry (memberIdText c parent i name) member-body b z room (omega arith) f v) room
+      module _ (go : idle (readPen q .stop) ≡ false) {r : TypeRead} (y : r ≡ readNear s (d .near) i) where
+        pub member-open : {x : TypeData} {m : List ℕ} {j : Page} → r ≡ typeRead.Good x → Writes 95 l m (page b q) (λ o. ruled c t (holding call o) (memberIdText c parent i name (typeContents s x))) j → Wrote (page b p) (walked c t h (memberId parent i name)) j
+        member-open f v = wrote-first (type-open s d call _ 96 (memberId parent i name) way.Function i member-entry (memberIdText c parent i name) member-body b z room (omega arith) go y f v) room
+
+        pub member-bad : {f : Refusal} {j : Page} → r ≡ typeRead.Refused f → Wrote (page b q) (unreadTrace f) j → Wrote (page b p) (walked c t h (memberId parent i name)) j
+        member-bad f v = wrote-first (type-bad s d call _ 96 (memberId parent i name) way.Function i member-entry (memberIdText c parent i name) member-body b z room (omega arith) go y f v) room
 
     module _ (scope : ℕ) where
       function-id-entry : entryOf c t (functionId scope i name) ≡ opens (key 0 i)
@@ -257,12 +262,15 @@ module _ (s : List ℕ) (d : Lent) (call : Call) where
       unfolding body
       function-id-body = refl
 
-      pub function-id-stopped : {q : Pen} → r ≡ typeOpening.Stopped q → Wrote (page b p) (walked c t h (functionId scope i name)) (page b q)
-      function-id-stopped f = wrote-first (type-stopped s d call _ 96 (functionId scope i name) way.Function i function-id-entry (functionIdText c scope i name) function-id-body b z room (omega arith) f) room
+      pub function-id-stopped : idle (readPen q .stop) ≡ true → Wrote (page b p) (walked c t h (functionId scope i name)) (page b q)
+      function-id-stopped f = wrote-first (stopped-then s d call _ 96 (functionId scope i name) way.Function i function-id-entry b z room (omega arith) f) room
 
-      pub function-id-open : {q : Pen} {k : ℕ} {x : TypeData} {m : List ℕ} {j : Page} → r ≡ typeOpening.Open q k x
-          → Writes k l m (page b q) (λ o. ruled c t (holding call o) (functionIdText c scope i name (typeContents s x))) j → Wrote (page b p) (walked c t h (functionId scope i name)) j
-      function-id-open f v = wrote-first (type-open s d call _ 96 (functionId scope i name) way.Function i function-id-entry (functionIdText c scope i name) function-id-body b z room (omega arith) f v) room
+      module _ (go : idle (readPen q .stop) ≡ false) {r : TypeRead} (y : r ≡ readNear s (d .near) i) where
+        pub function-id-open : {x : TypeData} {m : List ℕ} {j : Page} → r ≡ typeRead.Good x → Writes 95 l m (page b q) (λ o. ruled c t (holding call o) (functionIdText c scope i name (typeContents s x))) j → Wrote (page b p) (walked c t h (functionId scope i name)) j
+        function-id-open f v = wrote-first (type-open s d call _ 96 (functionId scope i name) way.Function i function-id-entry (functionIdText c scope i name) function-id-body b z room (omega arith) go y f v) room
+
+        pub function-id-bad : {f : Refusal} {j : Page} → r ≡ typeRead.Refused f → Wrote (page b q) (unreadTrace f) j → Wrote (page b p) (walked c t h (functionId scope i name)) j
+        function-id-bad f v = wrote-first (type-bad s d call _ 96 (functionId scope i name) way.Function i function-id-entry (functionIdText c scope i name) function-id-body b z room (omega arith) go y f v) room
 
   -- An id: it is read, then counted in its chain, and starts a list of its own, so what is open before it does not matter.
   module _ (o : List ℕ) (i : ℕ) (r : IdRead) (e : r ≡ readIdIn (d .ids) (d .near .bounds) (d .near .places) i) where

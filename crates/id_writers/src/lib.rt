@@ -27,10 +27,11 @@ use codeview::record::MemberFunctionId;
 use codeview::record::MemberFunctionType;
 use codeview::record::ProcedureType;
 use codeview::record::TypeData;
+use codeview::record::TypeRead;
+use codeview::types::type_at;
 use context::flags::Call;
-use context::seen::TypeOpening;
 use context::seen::Way;
-use context::seen::open_type;
+use context::seen::open_index;
 use emit::emit_method_args;
 use emit::emit_return_type;
 use emit::emit_type_index;
@@ -211,17 +212,12 @@ pub fn emit_function(
         return emit_name_str(out, p, name);
     }
     let mut list = [0u64; 96];
-    match open_type(
-        types,
-        bounds,
-        places,
-        p,
-        &mut list,
-        96,
-        Way::Function,
-        index,
-    ) {
-        TypeOpening::Open(q, n, t) => match t {
+    let q = open_index(p, &mut list, 96, Way::Function, index);
+    if pen::is_idle(q) {
+        return q;
+    }
+    match type_at(types, bounds, places, index) {
+        TypeRead::Good(t) => match t {
             TypeData::MemberFunction(m) => emit_method(
                 types,
                 ids,
@@ -231,7 +227,7 @@ pub fn emit_function(
                 q,
                 call,
                 &mut list,
-                n,
+                95,
                 name,
                 m,
             ),
@@ -244,13 +240,13 @@ pub fn emit_function(
                 q,
                 call,
                 &mut list,
-                n,
+                95,
                 name,
                 x,
             ),
             _ => pen::text(out, q, name),
         },
-        TypeOpening::Stopped(q) => q,
+        TypeRead::Refused(f) => pen::unread(out, q, f),
     }
 }
 
@@ -374,17 +370,12 @@ fn emit_member_id(
     let parent = d.parent;
     let name = d.name;
     let mut list = [0u64; 96];
-    match open_type(
-        types,
-        bounds,
-        places,
-        p,
-        &mut list,
-        96,
-        Way::Function,
-        function,
-    ) {
-        TypeOpening::Open(q, n, t) => {
+    let q = open_index(p, &mut list, 96, Way::Function, function);
+    if pen::is_idle(q) {
+        return q;
+    }
+    match type_at(types, bounds, places, function) {
+        TypeRead::Good(t) => {
             let TypeData::MemberFunction(m) = t else {
                 return pen::refuse(
                     out,
@@ -402,13 +393,13 @@ fn emit_member_id(
                 q,
                 call,
                 &mut list,
-                n,
+                95,
                 parent,
                 shown,
                 m,
             )
         }
-        TypeOpening::Stopped(q) => q,
+        TypeRead::Refused(f) => pen::unread(out, q, f),
     }
 }
 
@@ -511,23 +502,29 @@ pub fn emit_id(
             };
             let function = f.function;
             let mut list = [0u64; 96];
-            match open_type(
-                types,
-                bounds,
-                places,
-                p,
-                &mut list,
-                96,
-                Way::Function,
-                function,
-            ) {
-                TypeOpening::Open(q, n, t) => {
+            let q = open_index(p, &mut list, 96, Way::Function, function);
+            if pen::is_idle(q) {
+                return q;
+            }
+            match type_at(types, bounds, places, function) {
+                TypeRead::Good(t) => {
                     let TypeData::Procedure(x) = t else {
                         let wrong = Refusal::FunctionIdIsNotProcedureType(function.0);
                         return pen::refuse(out, q, wrong);
                     };
                     let scope = f.scope;
-                    let a = emit_result(types, ids, bounds, places, out, q, inner, &mut list, n, x);
+                    let a = emit_result(
+                        types,
+                        ids,
+                        bounds,
+                        places,
+                        out,
+                        q,
+                        inner,
+                        &mut list,
+                        95,
+                        x,
+                    );
                     if scope.0 == 0 {
                         return emit_id_end(
                             types,
@@ -538,7 +535,7 @@ pub fn emit_id(
                             a,
                             inner,
                             &mut list,
-                            n,
+                            95,
                             b"",
                             f,
                             x,
@@ -564,13 +561,13 @@ pub fn emit_id(
                         b,
                         inner,
                         &mut list,
-                        n,
+                        95,
                         b"::",
                         f,
                         x,
                     )
                 }
-                TypeOpening::Stopped(q) => q,
+                TypeRead::Refused(e) => pen::unread(out, q, e),
             }
         }
         IdRead::Refused(f) => emit_mark(out, p, f),

@@ -55,9 +55,6 @@ mul-seen-2 c = search needs
 slice-write-seen : tie.Need-slice-write-seen
 slice-write-seen c = search needs
 
-sub-t19 : tie.Need-sub-t19
-sub-t19 c = search needs
-
 same-length-3 : tie.Need-same-length-3
 same-length-3 c = search needs
 
@@ -84,6 +81,5 @@ open-index-spec =
     sub-seen
     mul-seen-2
     slice-write-seen
-    sub-t19
     same-length-3
     returns-4)

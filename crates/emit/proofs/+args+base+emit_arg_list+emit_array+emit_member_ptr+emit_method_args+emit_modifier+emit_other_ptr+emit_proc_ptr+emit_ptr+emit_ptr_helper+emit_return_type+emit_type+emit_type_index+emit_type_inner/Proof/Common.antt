@@ -33,7 +33,6 @@ use Rattle.emit.proofs.emit_type_index.Kinds as emit-type-index-kinds
 use Rattle.emit.proofs.emit_type_inner.Reads as emit-type-inner
 use Rattle.emit.proofs.emit_type_inner.Kinds as emit-type-inner-kinds
 use Rattle.context.proofs.seen.open_index.Reads as open-index-reads
-use Rattle.context.proofs.seen.open_type.Reads as open-type-reads
 use Rattle.emit.proofs.way_to.Reads as way-to-reads
 use Rattle.queries.proofs.arrays.get_array_info.Reads as get-array-info-reads
 use Rattle.codeview.proofs.types.type_at.Reads as type-at-reads

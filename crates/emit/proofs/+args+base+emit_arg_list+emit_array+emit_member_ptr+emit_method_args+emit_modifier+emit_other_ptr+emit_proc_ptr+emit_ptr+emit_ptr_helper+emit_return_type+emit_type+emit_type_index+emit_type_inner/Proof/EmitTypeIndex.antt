@@ -3,7 +3,7 @@ use Prim.Native.Nat.{ℕ}
 use borrow.Author.Needs.{needs}
 use native.Mathlib.Omega.{arith}
 use Rattle.pen.proofs.Laws.{wrote-step, wrote-idle}
-use mathlib.Core.Path.{_∙_}
+use mathlib.Core.Path.{sym, _∙_}
 use Rattle.context.proofs.Opening.{open-in, plain, unlent, _▸▸_, writes-by, writes-length}
 use Rattle.emit.proofs.Laws.{self-stopped, self-open, self-bad}
 use Rattle.emit.proofs.Laws.{arrayed-low}
@@ -34,14 +34,17 @@ enum-known-t t c = search needs
 open-index-requires : (t : ℕ) → lts.Need-open-index-requires (claims t) (emit-type-index-at t) emit-type-index.Post
 open-index-requires t c κs = search (c .before .before .before .match, c .before .before .before .before .before .if1, c .before .before .before .before .before .before .before .before .before .before .before .before .before .fits, c .before .before .before .before .before .before .before .before .before .before .before .before .before .pre, c .before .before .before .before .type-at .ensures, c .before .before .before .before .before .before .is-idle .ensures, needs)
 
-enum-known-q : (t : ℕ) → lts.Need-enum-known-q (claims t) (emit-type-index-at t) emit-type-index.Post
-enum-known-q t c = search needs
+is-idle-requires-2 : (t : ℕ) → lts.Need-is-idle-requires-2 (claims t) (emit-type-index-at t) emit-type-index.Post
+is-idle-requires-2 t c κs = search (c .before .before .before .before .before .before .match, c .before .before .before .before .before .before .before .before .if1, c .before .before .before .before .before .before .before .before .before .before .before .before .before .before .before .before .fits, c .before .before .before .before .before .before .before .before .before .before .before .before .before .before .before .before .pre, c .before .before .open-index .ensures, c .before .before .before .before .before .before .before .type-at .ensures, c .before .before .before .before .before .before .before .before .before .is-idle .ensures, needs)
+
+returns-2 : (t : ℕ) → lts.Need-returns-2 (claims t) (emit-type-index-at t) emit-type-index.Post
+returns-2 t c = self-stopped _ _ _ _ _ _ (c .before .before .before .before .before .before .before .before .before .type-at .ensures) (c .before .before .before .before .before .before .before .t .given .1) (c .before .before .before .before .open-index .ensures) (c .before .before .before .before .before .before .before .before .before .before .before .before .before .before .before .before .before .before .pre .1 .0) (omega (arith, c .before .before .before .before .before .before .before .before .before .before .before .before .before .before .before .before .before .before .pre)) (sym (c .before .is-idle2 .ensures) ∙ c .if2 .taken)
+
+sub-n : (t : ℕ) → lts.Need-sub-n (claims t) (emit-type-index-at t) emit-type-index.Post
+sub-n t c = omega (arith, open-in (c .before .before .before .before .open-index .ensures) (c .before .before .before .before .before .before .before .before .before .before .before .before .before .before .before .before .before .before .pre .1 .0) (omega (arith, c .before .before .before .before .before .before .before .before .before .before .before .before .before .before .before .before .before .before .pre)) (sym (c .before .is-idle2 .ensures) ∙ c .if2 .left) .next)
 
 emit-type-requires : (t : ℕ) → lts.Need-emit-type-requires (claims t) (emit-type-index-at t) emit-type-index.Post
-emit-type-requires t c κs = (omega (arith, open-in (c .before .before .before .before .before .before .before .open-index .ensures) (c .before .before .before .before .before .before .before .before .before .before .before .before .before .before .before .before .before .before .before .before .before .pre .1 .0) (omega (arith, c .before .before .before .before .before .before .before .before .before .before .before .before .before .before .before .before .before .before .before .before .before .pre)) (c .before .before .before .q .given .1) .next, arrayed-low (c .before .before .before .before .before .before .before .before .before .before .t .given .0 .0), c .before .before .before .before .before .before .before .before .before .before .before .before .before .before .before .before .before .before .before .before .before .pre), (open-in (c .before .before .before .before .before .before .before .open-index .ensures) (c .before .before .before .before .before .before .before .before .before .before .before .before .before .before .before .before .before .before .before .before .before .pre .1 .0) (omega (arith, c .before .before .before .before .before .before .before .before .before .before .before .before .before .before .before .before .before .before .before .before .before .pre)) (c .before .before .before .q .given .1) .all, omega (arith, open-in (c .before .before .before .before .before .before .before .open-index .ensures) (c .before .before .before .before .before .before .before .before .before .before .before .before .before .before .before .before .before .before .before .before .before .pre .1 .0) (omega (arith, c .before .before .before .before .before .before .before .before .before .before .before .before .before .before .before .before .before .before .before .before .before .pre)) (c .before .before .before .q .given .1) .next, c .before .before .before .before .before .before .before .before .before .before .before .before .before .before .before .before .before .before .before .before .before .pre)))
-
-enum-known-q-2 : (t : ℕ) → lts.Need-enum-known-q-2 (claims t) (emit-type-index-at t) emit-type-index.Post
-enum-known-q-2 t c = search needs
+emit-type-requires t c κs = (omega (arith, open-in (c .before .before .before .before .before .before .open-index .ensures) (c .before .before .before .before .before .before .before .before .before .before .before .before .before .before .before .before .before .before .before .before .pre .1 .0) (omega (arith, c .before .before .before .before .before .before .before .before .before .before .before .before .before .before .before .before .before .before .before .before .pre)) (sym (c .before .before .before .is-idle2 .ensures) ∙ c .before .before .if2 .left) .next, arrayed-low (c .before .before .before .before .before .before .before .before .before .t .given .0 .0), c .before .before .before .before .before .before .before .before .before .before .before .before .before .before .before .before .before .before .before .before .pre), (open-in (c .before .before .before .before .before .before .open-index .ensures) (c .before .before .before .before .before .before .before .before .before .before .before .before .before .before .before .before .before .before .before .before .pre .1 .0) (omega (arith, c .before .before .before .before .before .before .before .before .before .before .before .before .before .before .before .before .before .before .before .before .pre)) (sym (c .before .before .before .is-idle2 .ensures) ∙ c .before .before .if2 .left) .all, omega (arith, open-in (c .before .before .before .before .before .before .open-index .ensures) (c .before .before .before .before .before .before .before .before .before .before .before .before .before .before .before .before .before .before .before .before .pre .1 .0) (omega (arith, c .before .before .before .before .before .before .before .before .before .before .before .before .before .before .before .before .before .before .before .before .pre)) (sym (c .before .before .before .is-idle2 .ensures) ∙ c .before .before .if2 .left) .next, c .before .before .before .before .before .before .before .before .before .before .before .before .before .before .before .before .before .before .before .before .pre)))
 
 enum-known-f : (t : ℕ) → lts.Need-enum-known-f (claims t) (emit-type-index-at t) emit-type-index.Post
 enum-known-f t c = search needs
@@ -49,26 +52,23 @@ enum-known-f t c = search needs
 emit-mark-requires : (t : ℕ) → lts.Need-emit-mark-requires (claims t) (emit-type-index-at t) emit-type-index.Post
 emit-mark-requires t c κs = search (c .before .before .before .match, c .before .before .before .before .before .if1, c .before .before .before .before .before .before .before .before .before .before .before .before .before .fits, c .before .before .before .before .before .before .before .before .before .before .before .before .before .pre, c .before .before .before .before .type-at .ensures, c .before .before .before .before .before .before .is-idle .ensures, needs)
 
-returns-2 : (t : ℕ) → lts.Need-returns-2 (claims t) (emit-type-index-at t) emit-type-index.Post
-returns-2 t c = self-open _ _ _ _ _ _ (c .before .before .before .before .before .before .before .before .before .before .before .before .before .before .before .before .before .type-at .ensures) (c .before .before .before .before .before .before .before .before .before .before .before .before .before .before .before .t .given .1) (c .before .before .before .before .before .before .before .before .before .before .before .before .open-index .ensures) (c .before .before .before .before .before .before .before .before .before .before .before .before .before .before .before .before .before .before .before .before .before .before .before .before .before .before .pre .1 .0) (omega (arith, c .before .before .before .before .before .before .before .before .before .before .before .before .before .before .before .before .before .before .before .before .before .before .before .before .before .before .pre)) (c .before .before .before .before .before .before .before .before .q .given .1) (c .before .before .before .before .emit-type .ensures)
-
 returns-3 : (t : ℕ) → lts.Need-returns-3 (claims t) (emit-type-index-at t) emit-type-index.Post
-returns-3 t c = self-stopped _ _ _ _ _ _ (c .before .before .before .before .before .before .before .before .before .before .type-at .ensures) (c .before .before .before .before .before .before .before .before .t .given .1) (c .before .before .before .before .before .open-index .ensures) (c .before .before .before .before .before .before .before .before .before .before .before .before .before .before .before .before .before .before .before .pre .1 .0) (omega (arith, c .before .before .before .before .before .before .before .before .before .before .before .before .before .before .before .before .before .before .before .pre)) (c .before .q2 .given .1)
+returns-3 t c = self-open _ _ _ _ _ _ (c .before .before .before .before .before .before .before .before .before .before .before .before .before .before .before .before .type-at .ensures) (c .before .before .before .before .before .before .before .before .before .before .before .before .before .before .t .given .1) (c .before .before .before .before .before .before .before .before .before .before .before .open-index .ensures) (c .before .before .before .before .before .before .before .before .before .before .before .before .before .before .before .before .before .before .before .before .before .before .before .before .before .pre .1 .0) (omega (arith, c .before .before .before .before .before .before .before .before .before .before .before .before .before .before .before .before .before .before .before .before .before .before .before .before .before .pre)) (sym (c .before .before .before .before .before .before .before .before .is-idle2 .ensures) ∙ c .before .before .before .before .before .before .before .if2 .left) (c .before .before .before .before .emit-type .ensures)
 
 returns-4 : (t : ℕ) → lts.Need-returns-4 (claims t) (emit-type-index-at t) emit-type-index.Post
 returns-4 t c = writes-by (plain wrote-step ▸▸ (plain (c .before .before .emit-mark .ensures))) (self-bad _ _ _ _ _ _ _ (c .before .before .before .before .before .before .before .type-at .ensures) (c .before .before .before .before .before .f .given .1))
 
 same-length : (t : ℕ) → lts.Need-same-length (claims t) (emit-type-index-at t) emit-type-index.Post
-same-length t c = writes-length (returns-2 t c)
+same-length t c = c .before .before .before .seen .given
 
 same-length-2 : (t : ℕ) → lts.Need-same-length-2 (claims t) (emit-type-index-at t) emit-type-index.Post
-same-length-2 t c = c .before .seen2 .given ∙ c .before .before .before .before .before .before .before .before .before .before .before .seen .given
+same-length-2 t c = writes-length (returns-3 t c)
 
 same-length-3 : (t : ℕ) → lts.Need-same-length-3 (claims t) (emit-type-index-at t) emit-type-index.Post
-same-length-3 t c = c .before .before .before .before .seen .given
+same-length-3 t c = c .before .seen2 .given ∙ c .before .before .before .before .before .before .before .before .before .before .seen .given
 
 same-length-4 : (t : ℕ) → lts.Need-same-length-4 (claims t) (emit-type-index-at t) emit-type-index.Post
 same-length-4 t c = writes-length (returns-4 t c)
 
 pub closed : {M : Type 1} (t : ℕ) → lts.Closed (claims t) (emit-type-index-at t) emit-type-index.Post M
-closed t = lts.spec (claims t) (emit-type-index-at t) emit-type-index.Post (is-idle-requires t) (returns t) (type-at-requires t) (enum-known-t t) (open-index-requires t) (enum-known-q t) (emit-type-requires t) (enum-known-q-2 t) (enum-known-f t) (emit-mark-requires t) (same-length t) (same-length-2 t) (returns-2 t) (same-length-3 t) (returns-3 t) (same-length-4 t) (returns-4 t)
+closed t = lts.spec (claims t) (emit-type-index-at t) emit-type-index.Post (is-idle-requires t) (returns t) (type-at-requires t) (enum-known-t t) (open-index-requires t) (is-idle-requires-2 t) (same-length t) (returns-2 t) (sub-n t) (emit-type-requires t) (enum-known-f t) (emit-mark-requires t) (same-length-2 t) (same-length-3 t) (returns-3 t) (same-length-4 t) (returns-4 t)
