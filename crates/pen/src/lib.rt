@@ -206,7 +206,7 @@ fn missed(p: Pen, index: u32) -> Pen
 }
 
 // What could not be read inside a type: a missing record ends the text, anything else is refused.
-pub fn unreadable(p: Pen, f: Refusal) -> Pen
+fn unreadable(p: Pen, f: Refusal) -> Pen
     ensures { λ r. ⌜ r ≡ unreadPen p f ⌝ }
 {
     match f {
