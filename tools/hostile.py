@@ -76,6 +76,17 @@ def spaced():
     return types, types.lists(chain(types, 93, 31), 64), "," * 4095
 
 
+def uneven():
+    """The same at the end of the first quarter, which has nearly all records: behind it are long ones."""
+    types = Types()
+    behind = len(class_("", 0)) + 93 * len(modifier(0))
+    types.records = [FILLER] * ((LIMIT // 4 - 56 - behind) // len(FILLER))
+    at = chain(types, 93)
+    left = LIMIT - 56 - lists_bytes(64) - sum(map(len, types.records))
+    types.records += [rec(0x1203, bytes(left // 12 - len(FILLER)))] * 12
+    return types, types.lists(at, 64), "," * 4095
+
+
 def nested():
     """The same with lists of one entry in place of modifiers, behind as many records as there can be."""
     types = Types()
@@ -121,7 +132,7 @@ def lookalikes():
     return types, outer, ",".join(["[]"] * 36 * 36)
 
 
-CASES = [chains, spaced, nested, names, chains_and_names, arrays, lookalikes]
+CASES = [chains, spaced, uneven, nested, names, chains_and_names, arrays, lookalikes]
 
 
 def run(program, types, sheet):
