@@ -487,8 +487,8 @@ fn emit_array(
     }
 }
 
-// An array's base, with the text that `emit_type` has for it. A pointer and a modifier are gone on with at once, so that a row of pointers to arrays waits in
-// few frames.
+// An array's base or what is under a modifier, with the text that `emit_type` has for it. A pointer and a modifier are gone on with at once, so that a row of
+// pointers to arrays waits in few frames, and one of modifiers costs few hand-overs.
 fn base(
     types: &[u8],
     ids: &[u8],
@@ -595,7 +595,7 @@ fn emit_modifier(
             TypeData::Primitive(x) => emit_primitive(out, q, call, constant, x.code, x.indirection),
             _ => {
                 let a = text_if(out, q, constant, b"const ");
-                emit_type(types, ids, bounds, places, out, a, call, seen, n, t)
+                base(types, ids, bounds, places, out, a, call, seen, n, t)
             }
         },
         TypeRead::Refused(f) => pen::unread(out, q, f),
