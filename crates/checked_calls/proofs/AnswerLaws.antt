@@ -17,21 +17,28 @@ use Rattle.pen.specs.declared.Pen.{Pen}
 use Rattle.pen.specs.declared.Stop.{Stop}
 use Rattle.pen.specs.declared.Stop.the-variants as stop
 use Rattle.rules.specs.Call.{Outcome, text, stopped, answer, within, bufferAfter, ofText}
+use Rattle.checked_calls.specs.declared.answer.Answer.{Answer}
 use Rattle.checked_calls.specs.declared.answer.Answer.the-variants.{Text, Refused}
-use Rattle.checked_calls.specs.Answers.{ofAnswer, given, laid, started, closedAs, closed}
+use Rattle.checked_calls.specs.Answers.{ofAnswer, given, laid, settled, started, answeredBy}
 
--- the ends of `close`
-pub close-no : (b : List ℕ) (p : Pen) → readPen p .stop ≡ stop.No → given b (Text (p .at)) ≡ closed b p
-unfolding closed ofAnswer
-close-no b p e = rw e
+-- the ends of `answer_of` and of `settle`
+module _ (p : Pen) where
+  pub answered-no : readPen p .stop ≡ stop.No → Text (p .at) ≡ answeredBy (readPen p .stop) (p .at)
+  answered-no e = rw e refl
 
-pub close-missing : (b c : List ℕ) (p : Pen) (i : ℕ) → c ≡ replicate (length b) 0 → readPen p .stop ≡ stop.Missing i → given c (Refused (refusal.Missing i)) ≡ closed b p
-unfolding closed ofAnswer
-close-missing b c p i f e = rw (e, f)
+  pub answered-missing : (i : ℕ) → readPen p .stop ≡ stop.Missing i → Refused (refusal.Missing i) ≡ answeredBy (readPen p .stop) (p .at)
+  answered-missing i e = rw e refl
 
-pub close-refused : (b c : List ℕ) (p : Pen) (r : Refusal) → c ≡ replicate (length b) 0 → readPen p .stop ≡ stop.Refused r → given c (Refused r) ≡ closed b p
-unfolding closed ofAnswer
-close-refused b c p r f e = rw (e, f)
+  pub answered-refused : (f : Refusal) → readPen p .stop ≡ stop.Refused f → Refused f ≡ answeredBy (readPen p .stop) (p .at)
+  answered-refused f e = rw e refl
+
+pub settle-text : (b : List ℕ) {a : Answer} {n : ℕ} → a ≡ Text n → given b (Text n) ≡ settled b a
+unfolding settled ofAnswer
+settle-text b e = rw e refl
+
+pub settle-refused : (b : List ℕ) {c : List ℕ} {a : Answer} {f : Refusal} → c ≡ replicate (length b) 0 → a ≡ Refused f → given c (Refused f) ≡ settled b a
+unfolding settled ofAnswer
+settle-refused b g e = rw (g, e) refl
 
 -- the outcome by how the pen stopped
 abbrev answered : Stop → List ℕ → ℕ → Outcome
@@ -70,8 +77,8 @@ gave buf limit (tr bs e ns c) b q w = by (decLe (length bs) limit)
         record { bytes = bs; many = c .opened; is = rw (lt-leb (length bs) limit l, f) refl; whole = λ n. absurd (let z : _≡_ {A = ℕ} 0 1 = cc (f, n) in omega arith) }
 
 module _ (buf : List ℕ) (t : Trace Refusal) (b : List ℕ) (q : Pen) where
-  laid-at : (x : Stop) (limit : ℕ) → readPen q .stop ≡ x → limit ≡ length buf → length b ≡ length buf → Gave buf limit t b q → closedAs x b (q .at) ≡ laid buf (within limit t)
-  unfolding laid bufferAfter ofText
+  laid-at : (x : Stop) (limit : ℕ) → readPen q .stop ≡ x → limit ≡ length buf → length b ≡ length buf → Gave buf limit t b q → settled b (answeredBy x (q .at)) ≡ laid buf (within limit t)
+  unfolding settled laid bufferAfter ofText
   laid-at stop.No limit e h n g =
       let i : within limit t ≡ text (g .bytes) (g .many) = g .is ∙ ap (λ x. answered x (g .bytes) (g .many)) e in
       let r = g .whole e in
@@ -80,7 +87,11 @@ module _ (buf : List ℕ) (t : Trace Refusal) (b : List ℕ) (q : Pen) where
   laid-at (stop.Missing j) limit e h n g = rw (g .is ∙ ap (λ x. answered x (g .bytes) (g .many)) e, n) refl
   laid-at (stop.Refused f) limit e h n g = rw (g .is ∙ ap (λ x. answered x (g .bytes) (g .many)) e, n) refl
 
--- a walk from the start of the buffer is answered as the rules say
-pub answer-is : {buf b : List ℕ} {q : Pen} {t : Trace Refusal} → Wrote (page buf (started (length buf))) t (page b q) → closed b q ≡ laid buf (within (length buf) t)
-unfolding closed
+-- a walk from the start of the buffer is answered as the rules say, and so is a refusal before it
+pub answer-is : {buf b : List ℕ} {q : Pen} {t : Trace Refusal} → Wrote (page buf (started (length buf))) t (page b q)
+    → settled b (answeredBy (readPen q .stop) (q .at)) ≡ laid buf (within (length buf) t)
 answer-is {buf} {b} {q} {t} w = laid-at buf t b q (readPen q .stop) (length buf) refl refl (wrote-length w) (gave buf (length buf) t b q w)
+
+pub refused-laid : (buf : List ℕ) (f : Refusal) → settled buf (Refused f) ≡ laid buf (stopped f)
+unfolding settled laid bufferAfter ofText
+refused-laid buf f = refl

@@ -28,11 +28,13 @@ use Rattle.context.specs.declared.flags.Call.{Call}
 use Rattle.context.specs.declared.flags.TypeFormatterFlags.{TypeFormatterFlags}
 use Rattle.context.specs.declared.flags.FlagsRead.{FlagsRead}
 use Rattle.context.specs.declared.flags.FlagsRead.the-variants as read
-use Rattle.pen.specs.Page.{page, Wrote}
+use Rattle.pen.specs.Page.{readPen, page, Wrote}
 use Rattle.pen.specs.declared.Pen.{Pen}
 use Rattle.checked_calls.specs.Kept.{KeptOf}
-use Rattle.checked_calls.specs.Answers.{started, closed, laid}
-use Rattle.checked_calls.proofs.AnswerLaws.{answer-is}
+use Rattle.checked_calls.specs.Answers.{started, answeredBy, settled, laid}
+use Rattle.checked_calls.specs.declared.answer.Answer.{Answer}
+use Rattle.checked_calls.specs.declared.answer.Answer.the-variants as text
+use Rattle.checked_calls.proofs.AnswerLaws.{answer-is, refused-laid}
 use Rattle.queries.specs.Sizes.{Sizes, sizeTrace}
 use Rattle.queries.specs.declared.sizes.SizeRead.{SizeRead}
 use Rattle.queries.specs.declared.sizes.SizeRead.the-variants as size
@@ -72,53 +74,52 @@ module _ (t : StreamCheck) (flags size : ℕ) where
     ids-refused e f = rw (← e, f) refl
 
 -- A trace that was written from the start of the buffer is answered as the rules say; a refusal is a trace too.
-answered : {t : Trace Refusal} {buf b : List ℕ} {p q : Pen} → p ≡ started (length buf) → Wrote (page buf p) t (page b q) → closed b q ≡ laid buf (within (length buf) t)
-answered {t} {buf} {b} {p} {q} e w =
+answered : {t : Trace Refusal} {buf b : List ℕ} {p q : Pen} {a : Answer} → p ≡ started (length buf) → Wrote (page buf p) t (page b q) → a ≡ answeredBy (readPen q .stop) (q .at)
+    → settled b a ≡ laid buf (within (length buf) t)
+answered {t} {buf} {b} {p} {q} {a} e w f =
     let v : Wrote (page buf (started (length buf))) t (page b q) = rw (← e) w in
-    answer-is v
+    ap (settled b) f ∙ answer-is v
 
 refusal-within : (room : ℕ) (f : Refusal) → within room (refusal f) ≡ stopped f
 unfolding within answer
 refusal-within room f = rw (le-leb 0 room (omega arith)) refl
 
-pub refusal-is : {f : Refusal} {buf b : List ℕ} {p q : Pen} → p ≡ started (length buf) → Wrote (page buf p) (refusal f) (page b q) → closed b q ≡ laid buf (stopped f)
-refusal-is {f} {buf} e w = answered e w ∙ ap (laid buf) (refusal-within (length buf) f)
-
 -- A text call's answer, by what its checks came to: `k` is what is walked over the call that they give.
 module _ (k : Call → Trace Refusal) {r s : Checked} (e : s ≡ r) where
-  good-is : {c : Call} {buf b : List ℕ} {p q : Pen} → s ≡ Good c → Wrote (page buf p) (k c) (page b q) → p ≡ started (length buf) → closed b q ≡ laid buf (within (length buf) (performed r k))
-  good-is {c} f w g = let h : r ≡ Good c = sym e ∙ f in rw h (answered g w)
+  good-is : {c : Call} {buf b : List ℕ} {p q : Pen} {a : Answer} → s ≡ Good c → Wrote (page buf p) (k c) (page b q) → p ≡ started (length buf) → a ≡ answeredBy (readPen q .stop) (q .at)
+      → settled b a ≡ laid buf (within (length buf) (performed r k))
+  good-is {c} f w g i = let h : r ≡ Good c = sym e ∙ f in rw h (answered g w i)
 
-  refused-is : (buf : List ℕ) {f : Refusal} → s ≡ Refused f → laid buf (stopped f) ≡ laid buf (within (length buf) (performed r k))
-  refused-is buf {f} g = let h : r ≡ Refused f = sym e ∙ g in rw h (ap (laid buf) (sym (refusal-within (length buf) f)))
+  refused-is : (buf : List ℕ) {f : Refusal} → s ≡ Refused f → settled buf (text.Refused f) ≡ laid buf (within (length buf) (performed r k))
+  refused-is buf {f} g = let h : r ≡ Refused f = sym e ∙ g in rw h (refused-laid buf f ∙ ap (laid buf) (sym (refusal-within (length buf) f)))
 
 module _ (v : Near) (flags size : ℕ) (types : List ℕ) {r : Checked} where
   module _ (e : r ≡ callBy (checkIn (v .bounds) Types) flags size) (i : ℕ) where
-    pub type-is : {c : Call} {buf b : List ℕ} {p q : Pen} → r ≡ Good c → Wrote (page buf p) (taken types (beside [] v) (byItself i) c) (page b q) → p ≡ started (length buf)
-        → closed b q ≡ laid buf (typeOver types v flags size i (length buf))
+    pub type-is : {c : Call} {buf b : List ℕ} {p q : Pen} {a : Answer} → r ≡ Good c → Wrote (page buf p) (taken types (beside [] v) (byItself i) c) (page b q) → p ≡ started (length buf)
+        → a ≡ answeredBy (readPen q .stop) (q .at) → settled b a ≡ laid buf (typeOver types v flags size i (length buf))
     unfolding typeOver
     type-is = good-is (taken types (beside [] v) (byItself i)) e
 
-    pub type-refused : (buf : List ℕ) {f : Refusal} → r ≡ Refused f → laid buf (stopped f) ≡ laid buf (typeOver types v flags size i (length buf))
+    pub type-refused : (buf : List ℕ) {f : Refusal} → r ≡ Refused f → settled buf (text.Refused f) ≡ laid buf (typeOver types v flags size i (length buf))
     unfolding typeOver
     type-refused buf = refused-is (taken types (beside [] v) (byItself i)) e buf
 
-    pub function-is : (name : List ℕ) {c : Call} {buf b : List ℕ} {p q : Pen} → r ≡ Good c → Wrote (page buf p) (taken types (beside [] v) (functionOf i name) c) (page b q) → p ≡ started (length buf)
-        → closed b q ≡ laid buf (functionOver types v flags size name i (length buf))
+    pub function-is : (name : List ℕ) {c : Call} {buf b : List ℕ} {p q : Pen} {a : Answer} → r ≡ Good c → Wrote (page buf p) (taken types (beside [] v) (functionOf i name) c) (page b q)
+        → p ≡ started (length buf) → a ≡ answeredBy (readPen q .stop) (q .at) → settled b a ≡ laid buf (functionOver types v flags size name i (length buf))
     unfolding functionOver
     function-is name = good-is (taken types (beside [] v) (functionOf i name)) e
 
-    pub function-refused : (name buf : List ℕ) {f : Refusal} → r ≡ Refused f → laid buf (stopped f) ≡ laid buf (functionOver types v flags size name i (length buf))
+    pub function-refused : (name buf : List ℕ) {f : Refusal} → r ≡ Refused f → settled buf (text.Refused f) ≡ laid buf (functionOver types v flags size name i (length buf))
     unfolding functionOver
     function-refused name buf = refused-is (taken types (beside [] v) (functionOf i name)) e buf
 
   module _ (ids : List ℕ) (e : r ≡ idsBy (checkIn (v .bounds) Types) (checkIn (v .bounds) Ids) flags size) (i : ℕ) where
-    pub id-is : {c : Call} {buf b : List ℕ} {p q : Pen} → r ≡ Good c → Wrote (page buf p) (taken types (beside ids v) (idOf i) c) (page b q) → p ≡ started (length buf)
-        → closed b q ≡ laid buf (idOver types ids v flags size i (length buf))
+    pub id-is : {c : Call} {buf b : List ℕ} {p q : Pen} {a : Answer} → r ≡ Good c → Wrote (page buf p) (taken types (beside ids v) (idOf i) c) (page b q) → p ≡ started (length buf)
+        → a ≡ answeredBy (readPen q .stop) (q .at) → settled b a ≡ laid buf (idOver types ids v flags size i (length buf))
     unfolding idOver
     id-is = good-is (taken types (beside ids v) (idOf i)) e
 
-    pub id-refused : (buf : List ℕ) {f : Refusal} → r ≡ Refused f → laid buf (stopped f) ≡ laid buf (idOver types ids v flags size i (length buf))
+    pub id-refused : (buf : List ℕ) {f : Refusal} → r ≡ Refused f → settled buf (text.Refused f) ≡ laid buf (idOver types ids v flags size i (length buf))
     unfolding idOver
     id-refused buf = refused-is (taken types (beside ids v) (idOf i)) e buf
 

@@ -5,7 +5,6 @@ use lib.ListN.{length, replicate}
 use Rattle.streams.specs.declared.refusal.Refusal.{Refusal}
 use Rattle.streams.specs.declared.refusal.Refusal.the-variants as refusal
 use Rattle.pen.specs.declared.Pen.{Pen}
-use Rattle.pen.specs.Page.{readPen}
 use Rattle.pen.specs.declared.Stop.{Stop}
 use Rattle.pen.specs.declared.Stop.the-variants as stop
 use Rattle.rules.specs.Call.{Outcome, bufferAfter, Report, refusedBy, accepted, ofText}
@@ -31,14 +30,16 @@ given b a = left b (ofAnswer a)
 unfoldable pub laid : List ℕ → Outcome → Result
 laid buf o = left (bufferAfter buf o) (ofText o)
 
--- The pen before the first byte, and what is answered by the pen at the end. Outside every type a missing record is refusal 8.
+-- What is left where a refused call fills the buffer with zeros.
+unfoldable pub settled : List ℕ → Answer → Result
+settled b (Text n) = left b (accepted n)
+settled b (Refused f) = left (replicate (length b) 0) (refusedBy f)
+
+-- The pen before the first byte, and the answer by where and how it stopped. Outside every type a missing record is refusal 8.
 unfoldable pub started : ℕ → Pen
 started limit = record { at = 0; last = 0; limit = limit; stop = 0; detail = 0 }
 
-abbrev pub closedAs : Stop → List ℕ → ℕ → Result
-closedAs stop.No b n = left b (accepted n)
-closedAs (stop.Missing i) b n = left (replicate (length b) 0) (refusedBy (refusal.Missing i))
-closedAs (stop.Refused f) b n = left (replicate (length b) 0) (refusedBy f)
-
-unfoldable pub closed : List ℕ → Pen → Result
-closed b p = closedAs (readPen p .stop) b (p .at)
+abbrev pub answeredBy : Stop → ℕ → Answer
+answeredBy stop.No n = Text n
+answeredBy (stop.Missing i) n = Refused (refusal.Missing i)
+answeredBy (stop.Refused f) n = Refused f

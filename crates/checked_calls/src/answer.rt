@@ -1,7 +1,8 @@
 // What a text call answers, read off the pen that its walk leaves.
 ghost use mathlib.Core.Path.{_≡_};
 ghost use lib.ListN.{length, replicate};
-ghost use Rattle.checked_calls.specs.Answers.{given, started, closed};
+ghost use Rattle.pen.specs.Page.{readPen};
+ghost use Rattle.checked_calls.specs.Answers.{given, started, answeredBy, settled};
 use pen::Pen;
 use pen::Stop;
 use streams::refusal::Refusal;
@@ -35,17 +36,24 @@ pub fn start(limit: usize) -> Pen
     }
 }
 
-// The answer; a refused call fills the buffer with zeros.
-pub fn close(out: &mut [u8], p: Pen) -> Answer
-    ensures { λ r. ⌜ given (now (out .exit)) r ≡ closed (now (out .entry)) p ⌝ }
+// The answer by the pen at the end. Outside every type a missing record is refusal 8.
+pub fn answer_of(p: Pen) -> Answer
+    ensures { λ r. ⌜ r ≡ answeredBy (readPen p .stop) (p .at) ⌝ }
 {
     match pen::stop_of(p) {
         Stop::No => Answer::Text(p.at),
-        Stop::Missing(index) => {
-            clear(out);
-            Answer::Refused(Refusal::Missing(index))
-        }
-        Stop::Refused(f) => {
+        Stop::Missing(index) => Answer::Refused(Refusal::Missing(index)),
+        Stop::Refused(f) => Answer::Refused(f),
+    }
+}
+
+// The same answer; a refused call fills the buffer with zeros.
+pub fn settle(out: &mut [u8], a: Answer) -> Answer
+    ensures { λ r. ⌜ given (now (out .exit)) r ≡ settled (now (out .entry)) a ⌝ }
+{
+    match a {
+        Answer::Text(n) => Answer::Text(n),
+        Answer::Refused(f) => {
             clear(out);
             Answer::Refused(f)
         }

@@ -5,12 +5,13 @@ ghost use lib.Dec.{eqb};
 ghost use lib.ListN.{length};
 ghost use Rattle.streams.specs.Bounds.{checkIn};
 ghost use Rattle.streams.specs.declared.refusal.StreamKind.the-variants.{Types, Ids};
-ghost use Rattle.rules.specs.Call.{stopped, ofSize};
+ghost use Rattle.rules.specs.Call.{ofSize};
 ghost use Rattle.rules.specs.Places.{near};
-ghost use Rattle.checked_calls.specs.Answers.{given, laid};
+ghost use Rattle.checked_calls.specs.Answers.{given, settled, laid};
 ghost use Rattle.checked_calls.specs.Checks.{typesBy, callBy, idsBy, functionOver, idOver, typeOver, sizeOver, ofSizeAnswer};
 use crate::answer::Answer;
-use crate::answer::close;
+use crate::answer::answer_of;
+use crate::answer::settle;
 use crate::answer::start;
 use codeview::index::IdIndex;
 use codeview::index::TypeIndex;
@@ -90,17 +91,8 @@ fn check_id_call(bounds: &[u32], flags: u32, size: u32) -> Checked
     }
 }
 
-// A call that its checks refuse.
-fn refuse_call(out: &mut [u8], f: Refusal) -> Answer
-    ensures { λ r. ⌜ given (now (out .exit)) r ≡ laid (now (out .entry)) (stopped f) ⌝ }
-{
-    let p = start(out.len());
-    let q = pen::refuse(out, p, f);
-    close(out, q)
-}
-
-// The text of a function, by its name and type.
-pub fn function_over(
+// The text of a function, by its name and type, at the start of the buffer. The buffer of a refused call holds what was written until then.
+fn function_text(
     types: &[u8],
     bounds: &[u32],
     places: &[u32],
@@ -110,20 +102,20 @@ pub fn function_over(
     name: &[u8],
     index: TypeIndex,
 ) -> Answer
-    ensures { λ r. ⌜ given (now (out .exit)) r ≡ laid (now (out .entry)) (functionOver (now (types .entry)) (near (now (bounds .entry)) (now (places .entry))) flags size (now (name .entry)) (index .0) (length (now (out .entry)))) ⌝ }
+    ensures { λ r. ⌜ settled (now (out .exit)) r ≡ laid (now (out .entry)) (functionOver (now (types .entry)) (near (now (bounds .entry)) (now (places .entry))) flags size (now (name .entry)) (index .0) (length (now (out .entry)))) ⌝ }
 {
     match check_call(bounds, flags, size) {
         Checked::Good(call) => {
             let c = start(out.len());
             let d = emit_function(types, b"", bounds, places, out, c, call, name, index);
-            close(out, d)
+            answer_of(d)
         }
-        Checked::Refused(f) => refuse_call(out, f),
+        Checked::Refused(f) => Answer::Refused(f),
     }
 }
 
 // The text of an id.
-pub fn id_over(
+pub fn id_text(
     types: &[u8],
     ids: &[u8],
     bounds: &[u32],
@@ -133,20 +125,20 @@ pub fn id_over(
     size: u32,
     index: IdIndex,
 ) -> Answer
-    ensures { λ r. ⌜ given (now (out .exit)) r ≡ laid (now (out .entry)) (idOver (now (types .entry)) (now (ids .entry)) (near (now (bounds .entry)) (now (places .entry))) flags size (index .0) (length (now (out .entry)))) ⌝ }
+    ensures { λ r. ⌜ settled (now (out .exit)) r ≡ laid (now (out .entry)) (idOver (now (types .entry)) (now (ids .entry)) (near (now (bounds .entry)) (now (places .entry))) flags size (index .0) (length (now (out .entry)))) ⌝ }
 {
     match check_id_call(bounds, flags, size) {
         Checked::Good(call) => {
             let first = start(out.len());
             let last = emit_id(types, ids, bounds, places, out, first, call, 32, index);
-            close(out, last)
+            answer_of(last)
         }
-        Checked::Refused(f) => refuse_call(out, f),
+        Checked::Refused(f) => Answer::Refused(f),
     }
 }
 
 // The text of a type.
-pub fn type_over(
+pub fn type_text(
     types: &[u8],
     bounds: &[u32],
     places: &[u32],
@@ -155,7 +147,7 @@ pub fn type_over(
     size: u32,
     index: TypeIndex,
 ) -> Answer
-    ensures { λ r. ⌜ given (now (out .exit)) r ≡ laid (now (out .entry)) (typeOver (now (types .entry)) (near (now (bounds .entry)) (now (places .entry))) flags size (index .0) (length (now (out .entry)))) ⌝ }
+    ensures { λ r. ⌜ settled (now (out .exit)) r ≡ laid (now (out .entry)) (typeOver (now (types .entry)) (near (now (bounds .entry)) (now (places .entry))) flags size (index .0) (length (now (out .entry)))) ⌝ }
 {
     match check_call(bounds, flags, size) {
         Checked::Good(call) => {
@@ -173,10 +165,60 @@ pub fn type_over(
                 96,
                 index,
             );
-            close(out, b)
+            answer_of(b)
         }
-        Checked::Refused(f) => refuse_call(out, f),
+        Checked::Refused(f) => Answer::Refused(f),
     }
+}
+
+// The call for a function: its text, or a refusal and zeros.
+pub fn function_over(
+    types: &[u8],
+    bounds: &[u32],
+    places: &[u32],
+    out: &mut [u8],
+    flags: u32,
+    size: u32,
+    name: &[u8],
+    index: TypeIndex,
+) -> Answer
+    ensures { λ r. ⌜ given (now (out .exit)) r ≡ laid (now (out .entry)) (functionOver (now (types .entry)) (near (now (bounds .entry)) (now (places .entry))) flags size (now (name .entry)) (index .0) (length (now (out .entry)))) ⌝ }
+{
+    let a = function_text(types, bounds, places, out, flags, size, name, index);
+    settle(out, a)
+}
+
+// The call for an id.
+pub fn id_over(
+    types: &[u8],
+    ids: &[u8],
+    bounds: &[u32],
+    places: &[u32],
+    out: &mut [u8],
+    flags: u32,
+    size: u32,
+    index: IdIndex,
+) -> Answer
+    ensures { λ r. ⌜ given (now (out .exit)) r ≡ laid (now (out .entry)) (idOver (now (types .entry)) (now (ids .entry)) (near (now (bounds .entry)) (now (places .entry))) flags size (index .0) (length (now (out .entry)))) ⌝ }
+{
+    let a = id_text(types, ids, bounds, places, out, flags, size, index);
+    settle(out, a)
+}
+
+// The call for a type.
+pub fn type_over(
+    types: &[u8],
+    bounds: &[u32],
+    places: &[u32],
+    out: &mut [u8],
+    flags: u32,
+    size: u32,
+    index: TypeIndex,
+) -> Answer
+    ensures { λ r. ⌜ given (now (out .exit)) r ≡ laid (now (out .entry)) (typeOver (now (types .entry)) (near (now (bounds .entry)) (now (places .entry))) flags size (index .0) (length (now (out .entry)))) ⌝ }
+{
+    let a = type_text(types, bounds, places, out, flags, size, index);
+    settle(out, a)
 }
 
 // The size of a type; this call takes no flags.
