@@ -1,13 +1,14 @@
 -- What a text call answers is the outcome of its trace, read off the page that the trace left. Assumes nothing.
 use Prim.Native.Nat.{ℕ, _+_, _<_, _≤_}
-use mathlib.Core.Path.{_≡_, refl, ap, _∙_}
-use mathlib.Core.List.{List}
-use lib.ListN.{length, replicate}
-use lib.Seq.{sets-eq}
+use mathlib.Core.Path.{_≡_, refl, ap, ap₂, sym, _∙_}
+use mathlib.Core.List.{List, []}
+use lib.ListN.{length, take, drop, replicate}
+use lib.Seq.{sets-eq, take-append-seam}
 use native.Mathlib.Omega.{arith}
 use native.Mathlib.Decide.{decLe}
 use native.Mathlib.Nat.{zero-add}
 use borrow.Author.Tests.{le-leb, lt-leb}
+use Rattle.streams.specs.Refusal.{numberOf}
 use Rattle.streams.specs.declared.refusal.Refusal.{Refusal}
 use Rattle.streams.specs.declared.refusal.Refusal.the-variants as refusal
 use Rattle.interpreter.specs.Trace.{End, done, missing, refused, halted, unfinished, again, deep, long, Trace, tr}
@@ -16,10 +17,11 @@ use Rattle.pen.proofs.Laws.{Ran, ran-fits, ran-over, wrote-length}
 use Rattle.pen.specs.declared.Pen.{Pen}
 use Rattle.pen.specs.declared.Stop.{Stop}
 use Rattle.pen.specs.declared.Stop.the-variants as stop
-use Rattle.rules.specs.Call.{Outcome, text, stopped, answer, within, bufferAfter, ofText}
+use Rattle.rules.specs.Call.{Outcome, text, stopped, answer, within, bufferAfter, Report, refusedBy, accepted, ofText}
+use Rattle.rules.proofs.Demand.{numbered}
 use Rattle.checked_calls.specs.declared.answer.Answer.{Answer}
 use Rattle.checked_calls.specs.declared.answer.Answer.the-variants.{Text, Refused}
-use Rattle.checked_calls.specs.Answers.{ofAnswer, given, laid, settled, started, answeredBy}
+use Rattle.checked_calls.specs.Answers.{Result, ofAnswer, given, laid, textOf, settled, started, answeredBy}
 
 -- the ends of `answer_of` and of `settle`
 module _ (p : Pen) where
@@ -39,6 +41,35 @@ settle-text b e = rw e refl
 pub settle-refused : (b : List ℕ) {c : List ℕ} {a : Answer} {f : Refusal} → c ≡ replicate (length b) 0 → a ≡ Refused f → given c (Refused f) ≡ settled b a
 unfolding settled ofAnswer
 settle-refused b g e = rw (g, e) refl
+
+-- the text of an outcome is the start of the buffer after it
+pub text-taken : (buf : List ℕ) (o : Outcome) → take (ofText o .value) (bufferAfter buf o) ≡ textOf o
+unfolding ofText bufferAfter textOf
+text-taken buf (text bs k) = take-append-seam bs (drop (length bs) buf)
+text-taken buf (stopped f) = refl
+
+-- the same of a call that may leave what was written: what it tells, and its text
+module _ (b buf : List ℕ) (o : Outcome) where
+  pub settled-told : (a : Answer) → settled b a ≡ laid buf o → ofAnswer a ≡ ofText o
+  unfolding settled laid ofAnswer
+  settled-told (Text n) e = ap (λ (r : Result). r .told) e
+  settled-told (Refused f) e = ap (λ (r : Result). r .told) e
+
+  none-of : (f : Refusal) → refusedBy f ≡ ofText o → textOf o ≡ []
+  unfolding ofText textOf
+  none-of f e = by o e
+    where
+      by : (o : Outcome) → refusedBy f ≡ ofText o → textOf o ≡ []
+      by (text bs n) e = absurd (let z : numberOf f ≡ 0 = ap (λ (r : Report). r .number) e in let h = numbered f in omega arith)
+      by (stopped g) e = refl
+
+  pub settled-text : (a : Answer) → settled b a ≡ laid buf o → take (ofAnswer a .value) b ≡ textOf o
+  unfolding settled laid ofAnswer
+  settled-text (Text n) e =
+      let t : accepted n ≡ ofText o = ap (λ (r : Result). r .told) e in
+      let l : b ≡ bufferAfter buf o = ap (λ (r : Result). r .buf) e in
+      ap₂ (λ (r : Report) (c : List ℕ). take (r .value) c) t l ∙ text-taken buf o
+  settled-text (Refused f) e = sym (none-of f (ap (λ (r : Result). r .told) e))
 
 -- the outcome by how the pen stopped
 abbrev answered : Stop → List ℕ → ℕ → Outcome

@@ -1,13 +1,13 @@
 -- What a text call leaves: the buffer, and what it tells by number, detail and length.
 use Prim.Native.Nat.{ℕ}
-use mathlib.Core.List.{List}
+use mathlib.Core.List.{List, []}
 use lib.ListN.{length, replicate}
 use Rattle.streams.specs.declared.refusal.Refusal.{Refusal}
 use Rattle.streams.specs.declared.refusal.Refusal.the-variants as refusal
 use Rattle.pen.specs.declared.Pen.{Pen}
 use Rattle.pen.specs.declared.Stop.{Stop}
 use Rattle.pen.specs.declared.Stop.the-variants as stop
-use Rattle.rules.specs.Call.{Outcome, bufferAfter, Report, refusedBy, accepted, ofText}
+use Rattle.rules.specs.Call.{Outcome, text, stopped, bufferAfter, Report, refusedBy, accepted, ofText}
 use Rattle.checked_calls.specs.declared.answer.Answer.{Answer}
 use Rattle.checked_calls.specs.declared.answer.Answer.the-variants.{Text, Refused}
 
@@ -29,6 +29,11 @@ given b a = left b (ofAnswer a)
 -- An outcome of the rules, over the buffer that was lent.
 unfoldable pub laid : List ℕ → Outcome → Result
 laid buf o = left (bufferAfter buf o) (ofText o)
+
+-- The text of an outcome: none where the call is refused.
+unfoldable pub textOf : Outcome → List ℕ
+textOf (text bs n) = bs
+textOf (stopped f) = []
 
 -- What is left where a refused call fills the buffer with zeros.
 unfoldable pub settled : List ℕ → Answer → Result

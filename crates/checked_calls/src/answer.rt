@@ -13,7 +13,8 @@ pub enum Answer {
     Refused(Refusal),
 }
 
-fn clear(out: &mut [u8])
+// Zeros.
+pub fn clear(out: &mut [u8])
     ensures { λ _. ⌜ now (out .exit) ≡ replicate (length (now (out .entry))) 0 ⌝ }
 {
     let mut i = 0;

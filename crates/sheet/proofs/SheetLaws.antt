@@ -18,7 +18,8 @@ use Rattle.rules.specs.Call as call
 use Rattle.pen.specs.Page.{page, Wrote, writing, stopOf}
 use Rattle.pen.specs.declared.Pen.{Pen}
 use Rattle.pen.proofs.Laws.{ran-fits, Ran}
-use Rattle.checked_calls.specs.Answers.{Result, ofAnswer, given, started, laid}
+use Rattle.checked_calls.specs.Answers.{Result, ofAnswer, given, started, laid, textOf}
+use Rattle.checked_calls.proofs.AnswerLaws.{text-taken}
 use Rattle.checked_calls.specs.declared.answer.Answer.{Answer}
 use Rattle.checked_calls.specs.declared.answer.Answer.the-variants as answer
 use Rattle.wire.proofs.Laws.{field-short}
@@ -37,7 +38,7 @@ use Rattle.checked_calls.specs.declared.calls.SizeAnswer.{SizeAnswer}
 use Rattle.checked_calls.specs.declared.calls.SizeAnswer.the-variants as sized
 use Rattle.sheet.specs.Command.{commandAt, commandBy, givenName}
 use Rattle.sheet.proofs.LinesLaws.{told-refused, refused-length, text-length, size-length, numeral-length}
-use Rattle.sheet.specs.Line.{head, toldLine, textLine, refusedLine, textOf, outcomeLine, sizeLine}
+use Rattle.sheet.specs.Line.{head, toldLine, textLine, refusedLine, outcomeLine, sizeLine}
 use Rattle.sheet.specs.declared.command.Command.{Command}
 use Rattle.sheet.specs.declared.command.Command.the-variants.{End, Flags, PointerSize, TypeText, TypeSize, IdText, FunctionText, Faulty}
 use Rattle.sheet.specs.Sheet.{stepOf, behindOf, afterOf, answerLine, Calls, callsTo, callsOver, functionLine, Fit, ahead, fit, lineOf, byStep, linesFrom, linesBy, sheetLines, linesOver, sheetFit, fitOver, begin}
@@ -71,11 +72,6 @@ whole-named w = whole-taken w
 
 -- The line of a text call's answer is that of its outcome: what is told is the same, and the text is the start of the call's buffer, which stands in the line.
 module _ (n : ℕ) (buf out : List ℕ) where
-  text-taken : (o : call.Outcome) → take (call.ofText o .value) (call.bufferAfter buf o) ≡ textOf o
-  unfolding call.ofText call.bufferAfter textOf
-  text-taken (call.text bs k) = take-append-seam bs (drop (length bs) buf)
-  text-taken (call.stopped f) = refl
-
   value-room : (o : call.Outcome) → length (call.bufferAfter buf o) ≡ length buf → call.ofText o .value ≤ length buf
   unfolding call.ofText call.bufferAfter
   value-room (call.text bs k) h = let l = length-append bs (drop (length bs) buf) in omega arith
@@ -99,7 +95,7 @@ module _ (n : ℕ) (buf out : List ℕ) where
         let d : drop 27 (take 27 line ++ (out ++ rest)) ≡ out ++ rest = drop-at (take 27 line) (out ++ rest) 27 (length-take-le 27 line i) in
         let k = answer-room in
         let t : take (ofAnswer a .value) (out ++ rest) ≡ take (ofAnswer a .value) out = take-append-le (ofAnswer a .value) out rest (omega arith) in
-        let x : take (ofAnswer a .value) out ≡ textOf o = rw (told-is, left-is) (text-taken o) in
+        let x : take (ofAnswer a .value) out ≡ textOf o = rw (told-is, left-is) (text-taken buf o) in
         ap (λ (l : List ℕ). toldLine n (ofAnswer a) (take (ofAnswer a .value) l)) d ∙ ap (toldLine n (ofAnswer a)) (t ∙ x) ∙ ap (λ r. toldLine n r (textOf o)) told-is
 
 -- What was printed so far, from the start of the buffer; the lines that are still to come, `n` of them passed: what was printed and what fits of the rest is

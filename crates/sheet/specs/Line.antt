@@ -8,7 +8,8 @@ use Rattle.wire.specs.Field.{pick}
 use Rattle.wire.specs.Text.{bytes}
 use Rattle.streams.specs.declared.refusal.Refusal.{Refusal}
 use Rattle.rules.specs.Text.{decimal, hex}
-use Rattle.rules.specs.Call.{Outcome, text, stopped, Report, refusedBy, accepted, ofText}
+use Rattle.rules.specs.Call.{Outcome, Report, refusedBy, accepted, ofText}
+use Rattle.checked_calls.specs.Answers.{textOf}
 
 -- The fields before a text.
 unfoldable pub head : ℕ → ℕ → ℕ → List ℕ
@@ -26,10 +27,6 @@ unfoldable pub textLine : ℕ → List ℕ → List ℕ
 textLine n bs = toldLine n (accepted (length bs)) bs
 
 -- The line of a text call, by its outcome, and that of a size call, by what it tells.
-unfoldable pub textOf : Outcome → List ℕ
-textOf (text bs n) = bs
-textOf (stopped f) = []
-
 unfoldable pub outcomeLine : ℕ → Outcome → List ℕ
 outcomeLine n o = toldLine n (ofText o) (textOf o)
 
