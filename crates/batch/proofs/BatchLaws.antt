@@ -1,15 +1,15 @@
 -- Laws of batches: a call with less room answers the same or that there is none; one text behind the others; what is left at the end. Assumes nothing.
 use Prim.Native.Nat.{ℕ, zero, suc, _+_, _-_, _*_, _/_, _≤_, _<_, min}
-use mathlib.Core.Path.{_≡_, refl, ap, ap₂, sym, _∙_}
+use mathlib.Core.Path.{_≡_, refl, ap, sym, _∙_}
 use mathlib.Core.Bool.{Bool, true, false, _&&_}
 use mathlib.Core.List.{List, [], _∷_, _++_, append-assoc, append-nil}
 use lib.Dec.{leb, ltb, eqb}
 use lib.ListN.{length, take, drop, getD, set, replicate, length-append, length-drop, length-take, drop-of-length-le}
-use lib.Seq.{drop-cons, drop-drop, drop-length, take-all, take-at, drop-at, take-append-le, take-append-add, drop-append-add, drop-append-seam, length-take-le}
+use lib.Seq.{drop-cons, drop-drop, take-all, take-at, drop-at, take-append-le, take-append-add, length-take-le}
 use native.Mathlib.Nat.{sub-zero, zero-add}
 use native.Mathlib.Omega.{arith}
 use native.Mathlib.Decide.{decLt, decLe}
-use borrow.Author.Tests.{lt-ltb, le-ltb, lt-leb, le-leb}
+use borrow.Author.Tests.{lt-ltb, lt-leb, le-leb}
 use Rattle.wire.specs.Field.{pick}
 use Rattle.streams.specs.Refusal.{numberOf, detailOf}
 use Rattle.streams.specs.declared.refusal.Refusal.{Refusal}
@@ -26,7 +26,7 @@ use Rattle.checked_calls.specs.Checks.{idOver, typeOver}
 use Rattle.checked_calls.specs.Kept.{KeptOf, Kept}
 use Rattle.checked_calls.proofs.AnswerLaws.{settled-told, settled-text}
 use Rattle.checked_calls.proofs.CallsLaws.{id-over, type-over}
-use Rattle.batch.specs.Batch.{entry, Batch, none, ahead, leavesOff, batchFrom, batchOf, Batched, batched, laidBatch, GoesOn, textsOver, Laying}
+use Rattle.batch.specs.Batch.{entry, Batch, none, ahead, leavesOff, batchFrom, batchOf, batched, laidBatch, GoesOn, textsOver, typeBatch, idBatch, batchOver, Laying}
 
 -- With less room a call answers what it answers with more, or that there is none.
 abbrev pub Grows : (ℕ → ℕ → Outcome) → Type 0
@@ -320,7 +320,7 @@ pub batch-goes-on : (call : ℕ → ℕ → Outcome) (room numbers : ℕ) (is : 
 batch-goes-on call room numbers is = record { most = goes-on call room (numbers / 4) 0 is; some = λ h k. first-done call room (numbers / 4) is h (omega arith) }
 
 -- Batches of calls that answer alike are alike.
-pub batch-as : (f g : ℕ → ℕ → Outcome) → ((i room : ℕ) → f i room ≡ g i room) → (room n at : ℕ) (is : List ℕ) → batchFrom f room n at is ≡ batchFrom g room n at is
+batch-as : (f g : ℕ → ℕ → Outcome) → ((i room : ℕ) → f i room ≡ g i room) → (room n at : ℕ) (is : List ℕ) → batchFrom f room n at is ≡ batchFrom g room n at is
 unfolding batchFrom
 batch-as f g e room zero at is = refl
 batch-as f g e room (suc n) at [] = refl
@@ -329,10 +329,18 @@ batch-as f g e room (suc n) at (i ∷ is) =
     (ap (λ (b : Batch). pick (leavesOff at (ofText (g i (room - at)))) none (ahead at (g i room) b)) (batch-as f g e room n (at + ofText (g i room) .value) is))
 
 -- Over what was kept of the checks of the same bytes they are those of the rules.
-pub types-kept : (types ids : List ℕ) (v : Near) → KeptOf Types types v → (flags size i room : ℕ) → textsOver Types types ids v flags size i room ≡ typeOutcome flags size types i room
-unfolding textsOver
-types-kept types ids v k flags size i room = type-over types v k flags size i room
+module _ (types ids : List ℕ) (v : Near) (flags size : ℕ) where
+  types-kept : KeptOf Types types v → (i room : ℕ) → textsOver Types types ids v flags size i room ≡ typeOutcome flags size types i room
+  unfolding textsOver
+  types-kept k i room = type-over types v k flags size i room
 
-pub ids-kept : (types ids : List ℕ) (v : Near) → Kept types ids v → (flags size i room : ℕ) → textsOver Ids types ids v flags size i room ≡ idOutcome flags size types ids i room
-unfolding textsOver
-ids-kept types ids v k flags size i room = id-over types v (k .ofTypes) ids (k .ofIds) flags size i room
+  ids-kept : Kept types ids v → (i room : ℕ) → textsOver Ids types ids v flags size i room ≡ idOutcome flags size types ids i room
+  unfolding textsOver
+  ids-kept k i room = id-over types v (k .ofTypes) ids (k .ofIds) flags size i room
+
+  module _ (room numbers : ℕ) (is : List ℕ) where
+    pub type-batch-kept : KeptOf Types types v → batchOver Types types ids v flags size room numbers is ≡ typeBatch flags size types room numbers is
+    type-batch-kept k = batch-as _ _ (types-kept k) room (numbers / 4) 0 is
+
+    pub id-batch-kept : Kept types ids v → batchOver Ids types ids v flags size room numbers is ≡ idBatch flags size types ids room numbers is
+    id-batch-kept k = batch-as _ _ (ids-kept k) room (numbers / 4) 0 is

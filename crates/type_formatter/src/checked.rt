@@ -1,7 +1,7 @@
-// Streams checked once: a check of both streams that fills a buffer of the caller's, and the four calls and the sheet over what it left there. They take any
+// Streams checked once: a check of both streams that fills a buffer of the caller's, and the four calls, the batches and the sheet over what it left there. They take any
 // numbers.
 ghost use mathlib.Core.Path.{_≡_};
-ghost use mathlib.Core.List.{_++_};
+ghost use mathlib.Core.List.{[], _++_};
 ghost use Prim.Native.Nat.{_-_, _/_, _≤_, min};
 ghost use lib.ListN.{length, take, drop, replicate};
 ghost use Rattle.streams.specs.declared.refusal.StreamKind.the-variants.{Types, Ids};
@@ -9,8 +9,10 @@ ghost use Rattle.rules.specs.Call.{functionOutcome, idOutcome, typeOutcome, siz
 ghost use Rattle.checked_calls.specs.Answers.{given, laid};
 ghost use Rattle.checked_calls.specs.Checks.{functionOver, idOver, typeOver, sizeOver, ofSizeAnswer};
 ghost use Rattle.checked_calls.specs.Kept.{KeptOf, Kept, keptIn, recordCount, placesFor, serving, Filled};
+ghost use Rattle.batch.specs.Batch.{batched, laidBatch, GoesOn, typeBatch, idBatch, batchOver};
 ghost use Rattle.sheet.specs.Sheet.{sheetFit, fitOver};
 ghost use Rattle.sheet.specs.Printed.{shown, laidOut, ContinuesOver};
+use batch::texts_over;
 use checked_calls::answer::Answer;
 use checked_calls::calls::SizeAnswer;
 use checked_calls::calls::function_over;
@@ -24,6 +26,7 @@ use sheet::Printed;
 use sheet::print_over;
 use streams::places::least;
 use streams::places::wide;
+use streams::refusal::StreamKind;
 use streams::stream::Head;
 use streams::stream::header_of;
 use streams::stream::shorter;
@@ -206,6 +209,69 @@ pub fn get_type_size(types: &[u8], checked: &[u32], size: u32, index: TypeIndex)
         places_behind(checked),
         size,
         index,
+    )
+}
+
+// The texts of ids, one after another, with four numbers for each.
+pub fn format_ids(
+    types: &[u8],
+    ids: &[u8],
+    checked: &[u32],
+    out: &mut [u8],
+    flags: u32,
+    size: u32,
+    indexes: &[u32],
+    answers: &mut [u64],
+) -> usize
+    ensures { λ r. ⌜ batched (now (out .exit)) (now (answers .exit)) r ≡ laidBatch (now (out .entry)) (now (answers .entry)) (batchOver Ids (now (types .entry)) (now (ids .entry)) (keptIn (now (checked .entry))) flags size (length (now (out .entry))) (length (now (answers .entry))) (now (indexes .entry))) ⌝ }
+    ensures { λ r. ⌜ (Kept (now (types .entry)) (now (ids .entry)) (keptIn (now (checked .entry))) → batched (now (out .exit)) (now (answers .exit)) r ≡ laidBatch (now (out .entry)) (now (answers .entry)) (idBatch flags size (now (types .entry)) (now (ids .entry)) (length (now (out .entry))) (length (now (answers .entry))) (now (indexes .entry)))) ⌝ }
+    ensures { λ _. ⌜ GoesOn (length (now (answers .entry))) (now (indexes .entry)) (batchOver Ids (now (types .entry)) (now (ids .entry)) (keptIn (now (checked .entry))) flags size (length (now (out .entry))) (length (now (answers .entry))) (now (indexes .entry))) ⌝ }
+{
+    let numbers = numbers_of(checked);
+    let places = places_behind(checked);
+    let ids_of = StreamKind::Ids;
+    texts_over(
+        ids_of,
+        types,
+        ids,
+        numbers,
+        places,
+        out,
+        flags,
+        size,
+        indexes,
+        answers,
+    )
+}
+
+// The texts of types.
+pub fn format_types(
+    types: &[u8],
+    checked: &[u32],
+    out: &mut [u8],
+    flags: u32,
+    size: u32,
+    indexes: &[u32],
+    answers: &mut [u64],
+) -> usize
+    ensures { λ r. ⌜ batched (now (out .exit)) (now (answers .exit)) r ≡ laidBatch (now (out .entry)) (now (answers .entry)) (batchOver Types (now (types .entry)) [] (keptIn (now (checked .entry))) flags size (length (now (out .entry))) (length (now (answers .entry))) (now (indexes .entry))) ⌝ }
+    ensures { λ r. ⌜ (KeptOf Types (now (types .entry)) (keptIn (now (checked .entry))) → batched (now (out .exit)) (now (answers .exit)) r ≡ laidBatch (now (out .entry)) (now (answers .entry)) (typeBatch flags size (now (types .entry)) (length (now (out .entry))) (length (now (answers .entry))) (now (indexes .entry)))) ⌝ }
+    ensures { λ _. ⌜ GoesOn (length (now (answers .entry))) (now (indexes .entry)) (batchOver Types (now (types .entry)) [] (keptIn (now (checked .entry))) flags size (length (now (out .entry))) (length (now (answers .entry))) (now (indexes .entry))) ⌝ }
+{
+    let numbers = numbers_of(checked);
+    let places = places_behind(checked);
+    let types_of = StreamKind::Types;
+    texts_over(
+        types_of,
+        types,
+        b"",
+        numbers,
+        places,
+        out,
+        flags,
+        size,
+        indexes,
+        answers,
     )
 }
 
