@@ -1,0 +1,3 @@
+pub mod ContentsLaws
+pub mod DirectoryLaws
+pub mod Laws

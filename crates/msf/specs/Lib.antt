@@ -1,0 +1,4 @@
+pub mod Damage
+pub mod Superblock
+pub mod Directory
+pub mod Contents
