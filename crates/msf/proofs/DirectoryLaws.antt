@@ -9,15 +9,24 @@ use mathlib.Core.List.{List}
 use mathlib.Core.Logic.{⊎-elim}
 use lib.ListN.{length}
 use lib.Dec.{eqb, ltb}
-use borrow.Author.Tests.{eqb-true, ltb-true, eq-eqb, ne-eqb}
+use borrow.Author.Tests.{eqb-true, ltb-true, eq-eqb, ne-eqb, lt-ltb, le-ltb, lt-leb, le-leb}
 use Rattle.msf.proofs.Laws.{both-good, held, both}
 use Rattle.msf.specs.Damage.{test}
-use Rattle.msf.specs.Superblock.{word, inside, Sound}
-use Rattle.msf.specs.Directory.{place, numberAt, streams, sizeOf, blocksOf, listed, allInside, filled, listsChecked}
+use Rattle.msf.specs.Superblock.{word, blocksFor, inside, Sound}
+use Rattle.msf.specs.Directory.{place, numberAt, streams, sizeOf, blocksOf, listed, allInside, filled, listsChecked, streamChecked}
 use Rattle.msf.specs.declared.damage.Checked.the-variants.{Good, Damaged}
 use Rattle.msf.specs.declared.damage.Damage.{Damage}
-use Rattle.msf.specs.declared.damage.Damage.the-variants.{Directory, StreamBlock}
+use Rattle.msf.specs.declared.damage.Damage.the-variants.{Directory, StreamBlock, NoStream, NoRoom}
 use Rattle.msf.specs.declared.superblock.Superblock.{Superblock}
+
+-- The two cases of a size.
+pub blocks-none : (size n : ℕ) → n ≡ 0xFFFF_FFFF → 0 ≡ blocksOf size n
+unfolding blocksOf
+blocks-none size n e = rw (eq-eqb n 0xFFFF_FFFF e)
+
+pub blocks-some : (size n r : ℕ) → (n ≡ 0xFFFF_FFFF → ⊥) → r ≡ blocksFor size n → r ≡ blocksOf size n
+unfolding blocksOf
+blocks-some size n r e h = rw (ne-eqb n 0xFFFF_FFFF e) h
 
 -- The blocks of one stream more.
 pub listed-more : (file : List ℕ) (s : Superblock) (i : ℕ) → listed file s (i + 1) ≡ listed file s i + blocksOf (s .size) (numberAt file s (1 + i))
@@ -100,3 +109,33 @@ listed-grows file s i (suc n) h =
     (λ e. subst (λ (m : ℕ). listed file s i ≤ listed file s m) e (le-refl (listed file s i)))
     (λ l. let r = listed-grows file s i n (omega arith) in omega arith)
     (eq-or-lt-of-le h)
+
+-- The tests of the stream that is asked for, one after another.
+module _ (file : List ℕ) (s : Superblock) (number room : ℕ) where
+  pub beyond : numberAt file s 0 ≤ number → Damaged (NoStream (place file s 0)) ≡ streamChecked file s number room
+  unfolding streamChecked streams
+  beyond h = rw (le-ltb number (numberAt file s 0) h)
+
+  module _ (there : number < numberAt file s 0) where
+    pub absent : numberAt file s (1 + number) ≡ 0xFFFF_FFFF → Damaged (NoStream (place file s (1 + number))) ≡ streamChecked file s number room
+    unfolding streamChecked streams sizeOf
+    absent h = rw (lt-ltb number (numberAt file s 0) there, eq-eqb (numberAt file s (1 + number)) 0xFFFF_FFFF h)
+
+    module _ (real : numberAt file s (1 + number) ≡ 0xFFFF_FFFF → ⊥) where
+      pub too-long : room < numberAt file s (1 + number) → Damaged (NoRoom (numberAt file s (1 + number))) ≡ streamChecked file s number room
+      unfolding streamChecked streams sizeOf
+      too-long h =
+          rw (
+            lt-ltb number (numberAt file s 0) there,
+            ne-eqb (numberAt file s (1 + number)) 0xFFFF_FFFF real,
+            lt-leb (numberAt file s (1 + number)) room h,
+          )
+
+      pub takes : numberAt file s (1 + number) ≤ room → Good ≡ streamChecked file s number room
+      unfolding streamChecked streams sizeOf
+      takes h =
+          rw (
+            lt-ltb number (numberAt file s 0) there,
+            ne-eqb (numberAt file s (1 + number)) 0xFFFF_FFFF real,
+            le-leb (numberAt file s (1 + number)) room h,
+          )

@@ -1,7 +1,6 @@
 -- Each return is that of the first test that fails.
 -- Assumes nothing.
-use borrow.Author.Tests.{lt-ltb, le-ltb, lt-leb, le-leb, eq-eqb, ne-eqb}
-use Rattle.msf.specs.Directory.{streams, sizeOf, streamChecked}
+use Rattle.msf.proofs.DirectoryLaws.{beyond, absent, too-long, takes}
 use native.Mathlib.Omega.{arith}
 use borrow.Author.Needs.{needs}
 use Rattle.msf.proofs.directory.check_stream.Statement.{statement}
@@ -14,8 +13,7 @@ place-requires : tie.Need-place-requires
 place-requires c κs = (c .before .before .before .pre, omega arith)
 
 returns : tie.Need-returns
-unfolding streamChecked streams
-returns c = rw (c .place .ensures .0, le-ltb _ _ (rw (c .before .before .number-at .ensures) at (c .before .if1 .taken)))
+returns c = rw (c .place .ensures .0) (beyond (c .before .before .before .before .args .file .now) (c .before .before .before .before .args .s) (c .before .before .before .before .args .number) (c .before .before .before .before .args .room) (rw (c .before .before .number-at .ensures) at (c .before .if1 .taken)))
 
 wide-requires : tie.Need-wide-requires
 wide-requires c κs = search needs
@@ -36,8 +34,7 @@ place-requires-2 : tie.Need-place-requires-2
 place-requires-2 c κs = (c .before .before .before .before .before .before .before .pre, omega (arith, c .wide2 .ensures .1))
 
 returns-2 : tie.Need-returns-2
-unfolding streamChecked streams sizeOf
-returns-2 c = rw (c .place2 .ensures .0, c .before .wide2 .ensures .0, lt-ltb _ _ (rw (c .before .before .before .before .before .before .number-at .ensures) at (c .before .before .before .before .before .if1 .left)), eq-eqb _ _ (rw (c .before .before .before .number-at2 .ensures, c .before .before .before .before .wide .ensures .0) at (c .before .before .if2 .taken)))
+returns-2 c = rw (c .place2 .ensures .0, c .before .wide2 .ensures .0) (absent (c .before .before .before .before .before .before .before .before .args .file .now) (c .before .before .before .before .before .before .before .before .args .s) (c .before .before .before .before .before .before .before .before .args .number) (c .before .before .before .before .before .before .before .before .args .room) (rw (c .before .before .before .before .before .before .number-at .ensures) at (c .before .before .before .before .before .if1 .left)) (rw (c .before .before .before .number-at2 .ensures, c .before .before .before .before .wide .ensures .0) at (c .before .before .if2 .taken)))
 
 wide-requires-3 : tie.Need-wide-requires-3
 wide-requires-3 c κs = search needs
@@ -46,12 +43,10 @@ wide-requires-4 : tie.Need-wide-requires-4
 wide-requires-4 c κs = search needs
 
 returns-3 : tie.Need-returns-3
-unfolding streamChecked streams sizeOf
-returns-3 c = rw (c .wide4 .ensures .0, c .before .before .before .before .number-at2 .ensures, c .before .before .before .before .before .wide .ensures .0, lt-ltb _ _ (rw (c .before .before .before .before .before .before .before .number-at .ensures) at (c .before .before .before .before .before .before .if1 .left)), ne-eqb _ _ (rw (c .before .before .before .before .number-at2 .ensures, c .before .before .before .before .before .wide .ensures .0) at (c .before .before .before .if2 .left)), lt-leb _ _ (rw (c .before .before .wide3 .ensures .0, c .before .before .before .before .number-at2 .ensures, c .before .before .before .before .before .wide .ensures .0) at (c .before .if3 .taken)))
+returns-3 c = rw (c .wide4 .ensures .0, c .before .before .before .before .number-at2 .ensures, c .before .before .before .before .before .wide .ensures .0) (too-long (c .before .before .before .before .before .before .before .before .before .args .file .now) (c .before .before .before .before .before .before .before .before .before .args .s) (c .before .before .before .before .before .before .before .before .before .args .number) (c .before .before .before .before .before .before .before .before .before .args .room) (rw (c .before .before .before .before .before .before .before .number-at .ensures) at (c .before .before .before .before .before .before .if1 .left)) (rw (c .before .before .before .before .number-at2 .ensures, c .before .before .before .before .before .wide .ensures .0) at (c .before .before .before .if2 .left)) (rw (c .before .before .wide3 .ensures .0, c .before .before .before .before .number-at2 .ensures, c .before .before .before .before .before .wide .ensures .0) at (c .before .if3 .taken)))
 
 returns-4 : tie.Need-returns-4
-unfolding streamChecked streams sizeOf
-returns-4 c = rw (lt-ltb _ _ (rw (c .before .before .before .before .before .before .number-at .ensures) at (c .before .before .before .before .before .if1 .left)), ne-eqb _ _ (rw (c .before .before .before .number-at2 .ensures, c .before .before .before .before .wide .ensures .0) at (c .before .before .if2 .left)), le-leb _ _ (rw (c .before .wide3 .ensures .0, c .before .before .before .number-at2 .ensures, c .before .before .before .before .wide .ensures .0) at (c .if3 .left)))
+returns-4 c = takes (c .before .before .before .before .before .before .before .before .args .file .now) (c .before .before .before .before .before .before .before .before .args .s) (c .before .before .before .before .before .before .before .before .args .number) (c .before .before .before .before .before .before .before .before .args .room) (rw (c .before .before .before .before .before .before .number-at .ensures) at (c .before .before .before .before .before .if1 .left)) (rw (c .before .before .before .number-at2 .ensures, c .before .before .before .before .wide .ensures .0) at (c .before .before .if2 .left)) (rw (c .before .wide3 .ensures .0, c .before .before .before .number-at2 .ensures, c .before .before .before .before .wide .ensures .0) at (c .if3 .left))
 
 pub check-stream-spec : {M : Type 1} → statement M
 check-stream-spec =
