@@ -15,7 +15,12 @@ use Rattle.checked_calls.specs.declared.calls.SizeAnswer.the-variants as size
 use Rattle.sheet.specs.Sheet.{Fit}
 use Rattle.sheet.specs.Printed.{Shown, shown, laidOut}
 use Rattle.sheet.specs.declared.Printed.{Printed}
-use Rattle.yokberd.specs.Report.{Counts, counts, ofPrinted, ofFit}
+use Rattle.msf.specs.Damage as damage
+use Rattle.msf.specs.Contents as stream
+use Rattle.msf.specs.declared.StreamRead.{StreamRead}
+use Rattle.msf.specs.declared.StreamRead.the-variants.{Bytes, Refused}
+use Rattle.msf.specs.declared.damage.Damage.{Damage}
+use Rattle.yokberd.specs.Report.{Counts, counts, ofPrinted, ofFit, Told, told, ofRead}
 
 refused : {n d : ℕ} (f : Refusal) → n ≡ numberOf f → d ≡ detailOf f → report n d 0 ≡ refusedBy f
 refused f e g = rw (e, g) refl
@@ -64,3 +69,15 @@ pub sheet-kept : {K D : Type 0} (buf out : List ℕ) (p : Printed) (f g : Fit) {
 sheet-kept buf out p f g (e, (k, d)) h =
     let x = sheet-left buf out p f (e, d) h in
     (x .0, (x .1 .0, ((λ y. let z = sheet-left buf out p g (k y, d) h in (z .0, z .1 .0)), d)))
+
+-- The ends of `report_stream`, and what the container's call leaves.
+pub bytes-case : {a : StreamRead} {n : ℕ} → a ≡ Bytes n → told 0 0 n ≡ ofRead a
+unfolding ofRead
+bytes-case e = rw e refl
+
+pub damaged-case : {a : StreamRead} {d : Damage} {n at : ℕ} → a ≡ Refused d → n ≡ damage.numberOf d → at ≡ damage.placeOf d → told n at 0 ≡ ofRead a
+unfolding ofRead
+damaged-case e n p = rw (e, n, p) refl
+
+pub stream-left : (out : List ℕ) (a : StreamRead) (s : stream.Result) {t : Told} → stream.given out a ≡ s → t ≡ ofRead a → (t ≡ ofRead (s .told)) × (out ≡ s .buf)
+stream-left out a s e f = (f ∙ ap (λ (r : stream.Result). ofRead (r .told)) e, ap (λ (r : stream.Result). r .buf) e)

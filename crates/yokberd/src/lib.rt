@@ -1,26 +1,34 @@
-// The calls for programs in C and Rust: each of the four calls and the sheet under its plain name, with numbers and byte slices only. What a call answers
+// The calls for programs in C and Rust: each of the four calls, the batches, the sheet and the container under its plain name, with numbers and slices only. What a call answers
 // beside its number goes into numbers that the caller lends. `c/yokberd.h` says the same to a C program.
 ghost use mathlib.Core.Path.{_≡_};
+ghost use mathlib.Core.List.{[]};
+ghost use Prim.Native.Nat.{ℕ};
 ghost use lib.ListN.{length};
 ghost use Rattle.rules.specs.Call.{functionOutcome, FunctionDemand, idOutcome, IdDemand, typeOutcome, TypeDemand, sizeOutcome, SizeFinished, report, ofSize};
 ghost use Rattle.checked_calls.specs.Answers.{left, ofAnswer, laid};
-ghost use Rattle.streams.specs.declared.refusal.StreamKind.the-variants.{Types};
+ghost use Rattle.streams.specs.declared.refusal.StreamKind.the-variants.{Types, Ids};
 ghost use Rattle.checked_calls.specs.Checks.{functionOver, idOver, typeOver, sizeOver, ofSizeAnswer};
 ghost use Rattle.checked_calls.specs.Kept.{KeptOf, Kept, keptIn, serving, Filled};
+ghost use Rattle.batch.specs.Batch.{batched, laidBatch, GoesOn, typeBatch, idBatch, batchOver};
 ghost use Rattle.sheet.specs.Sheet.{sheetFit, fitOver};
 ghost use Rattle.sheet.specs.Printed.{laidOut, SheetContinues, ContinuesOver};
-ghost use Rattle.yokberd.specs.Report.{counts, ofPrinted, ofFit};
+ghost use Rattle.msf.specs.Contents.{streamOf, laid as laidStream};
+ghost use Rattle.yokberd.specs.Report.{counts, ofPrinted, ofFit, told, ofRead};
 use checked_calls::answer::Answer;
 use checked_calls::calls::SizeAnswer;
 use codeview::index::IdIndex;
 use codeview::index::TypeIndex;
+use msf::StreamRead;
+use msf::read_stream;
 use sheet::Printed;
 use sheet::print_sheet;
 use type_formatter::checked;
 use type_formatter::checked::check_streams;
 use type_formatter::format_function;
 use type_formatter::format_id;
+use type_formatter::format_ids;
 use type_formatter::format_type;
+use type_formatter::format_types;
 use type_formatter::get_type_size;
 
 fn report_text(a: Answer, detail: &mut u32, written: &mut usize) -> u32
@@ -63,6 +71,23 @@ fn report_printed(p: Printed, bytes: &mut usize, lines: &mut usize) -> u32
     *bytes = p.bytes;
     *lines = p.lines;
     if p.more { 1 } else { 0 }
+}
+
+fn report_stream(a: StreamRead, at: &mut usize, len: &mut usize) -> u32
+    ensures { λ r. ⌜ told r (now (at .exit)) (now (len .exit)) ≡ ofRead a ⌝ }
+{
+    match a {
+        StreamRead::Bytes(n) => {
+            *at = 0;
+            *len = n;
+            0
+        }
+        StreamRead::Refused(d) => {
+            *at = d.place();
+            *len = 0;
+            d.number()
+        }
+    }
 }
 
 // The text of a function, by its name and type.
@@ -137,7 +162,42 @@ pub extern "C" fn yokberd_get_type_size(
     report_size(a, detail, bytes)
 }
 
-// Checks both streams once, and leaves in a buffer what the five calls below go by: how many numbers of it serve.
+// The texts of ids, one after another, with four numbers for each: how many of the indexes are done.
+#[no_mangle]
+pub extern "C" fn yokberd_format_ids(
+    types: &[u8],
+    ids: &[u8],
+    out: &mut [u8],
+    flags: u32,
+    size: u32,
+    indexes: &[u32],
+    answers: &mut [u64],
+) -> usize
+    ensures { λ r. ⌜ batched (now (out .exit)) (now (answers .exit)) r ≡ laidBatch (now (out .entry)) (now (answers .entry)) (idBatch flags size (now (types .entry)) (now (ids .entry)) (length (now (out .entry))) (length (now (answers .entry))) (now (indexes .entry))) ⌝ }
+    ensures { λ _. ⌜ GoesOn (length (now (answers .entry))) (now (indexes .entry)) (idBatch flags size (now (types .entry)) (now (ids .entry)) (length (now (out .entry))) (length (now (answers .entry))) (now (indexes .entry))) ⌝ }
+    ensures { λ _. ⌜ ((index : ℕ) → IdDemand flags size (now (types .entry)) (now (ids .entry)) index) ⌝ }
+{
+    format_ids(types, ids, out, flags, size, indexes, answers)
+}
+
+// The texts of types, one after another, with four numbers for each: how many of the indexes are done.
+#[no_mangle]
+pub extern "C" fn yokberd_format_types(
+    types: &[u8],
+    out: &mut [u8],
+    flags: u32,
+    size: u32,
+    indexes: &[u32],
+    answers: &mut [u64],
+) -> usize
+    ensures { λ r. ⌜ batched (now (out .exit)) (now (answers .exit)) r ≡ laidBatch (now (out .entry)) (now (answers .entry)) (typeBatch flags size (now (types .entry)) (length (now (out .entry))) (length (now (answers .entry))) (now (indexes .entry))) ⌝ }
+    ensures { λ _. ⌜ GoesOn (length (now (answers .entry))) (now (indexes .entry)) (typeBatch flags size (now (types .entry)) (length (now (out .entry))) (length (now (answers .entry))) (now (indexes .entry))) ⌝ }
+    ensures { λ _. ⌜ ((index : ℕ) → TypeDemand flags size (now (types .entry)) index) ⌝ }
+{
+    format_types(types, out, flags, size, indexes, answers)
+}
+
+// Checks both streams once, and leaves in a buffer what the calls below go by: how many numbers of it serve.
 #[no_mangle]
 pub extern "C" fn yokberd_check_streams(
     types: &[u8],
@@ -227,6 +287,43 @@ pub extern "C" fn yokberd_checked_get_type_size(
     report_size(a, detail, bytes)
 }
 
+// The texts of ids over streams that were checked before.
+#[no_mangle]
+pub extern "C" fn yokberd_checked_format_ids(
+    types: &[u8],
+    ids: &[u8],
+    checked: &[u32],
+    out: &mut [u8],
+    flags: u32,
+    size: u32,
+    indexes: &[u32],
+    answers: &mut [u64],
+) -> usize
+    ensures { λ r. ⌜ batched (now (out .exit)) (now (answers .exit)) r ≡ laidBatch (now (out .entry)) (now (answers .entry)) (batchOver Ids (now (types .entry)) (now (ids .entry)) (keptIn (now (checked .entry))) flags size (length (now (out .entry))) (length (now (answers .entry))) (now (indexes .entry))) ⌝ }
+    ensures { λ r. ⌜ (Kept (now (types .entry)) (now (ids .entry)) (keptIn (now (checked .entry))) → batched (now (out .exit)) (now (answers .exit)) r ≡ laidBatch (now (out .entry)) (now (answers .entry)) (idBatch flags size (now (types .entry)) (now (ids .entry)) (length (now (out .entry))) (length (now (answers .entry))) (now (indexes .entry)))) ⌝ }
+    ensures { λ _. ⌜ GoesOn (length (now (answers .entry))) (now (indexes .entry)) (batchOver Ids (now (types .entry)) (now (ids .entry)) (keptIn (now (checked .entry))) flags size (length (now (out .entry))) (length (now (answers .entry))) (now (indexes .entry))) ⌝ }
+{
+    checked::format_ids(types, ids, checked, out, flags, size, indexes, answers)
+}
+
+// The texts of types over streams that were checked before.
+#[no_mangle]
+pub extern "C" fn yokberd_checked_format_types(
+    types: &[u8],
+    checked: &[u32],
+    out: &mut [u8],
+    flags: u32,
+    size: u32,
+    indexes: &[u32],
+    answers: &mut [u64],
+) -> usize
+    ensures { λ r. ⌜ batched (now (out .exit)) (now (answers .exit)) r ≡ laidBatch (now (out .entry)) (now (answers .entry)) (batchOver Types (now (types .entry)) [] (keptIn (now (checked .entry))) flags size (length (now (out .entry))) (length (now (answers .entry))) (now (indexes .entry))) ⌝ }
+    ensures { λ r. ⌜ (KeptOf Types (now (types .entry)) (keptIn (now (checked .entry))) → batched (now (out .exit)) (now (answers .exit)) r ≡ laidBatch (now (out .entry)) (now (answers .entry)) (typeBatch flags size (now (types .entry)) (length (now (out .entry))) (length (now (answers .entry))) (now (indexes .entry)))) ⌝ }
+    ensures { λ _. ⌜ GoesOn (length (now (answers .entry))) (now (indexes .entry)) (batchOver Types (now (types .entry)) [] (keptIn (now (checked .entry))) flags size (length (now (out .entry))) (length (now (answers .entry))) (now (indexes .entry))) ⌝ }
+{
+    checked::format_types(types, checked, out, flags, size, indexes, answers)
+}
+
 // A sheet's lines behind the first `skip` of them, as far as whole lines fit: 1 where lines are left, else 0.
 #[no_mangle]
 pub extern "C" fn yokberd_print_sheet(
@@ -265,4 +362,20 @@ pub extern "C" fn yokberd_checked_print_sheet(
 {
     let p = checked::print_sheet(types, ids, checked, sheet, out, skip);
     report_printed(p, bytes, lines)
+}
+
+// The bytes of a stream of a .pdb file, by its number.
+#[no_mangle]
+pub extern "C" fn yokberd_read_stream(
+    file: &[u8],
+    number: u32,
+    out: &mut [u8],
+    at: &mut usize,
+    len: &mut usize,
+) -> u32
+    ensures { λ r. ⌜ told r (now (at .exit)) (now (len .exit)) ≡ ofRead (laidStream (now (out .entry)) (streamOf (now (file .entry)) number (length (now (out .entry)))) .told) ⌝ }
+    ensures { λ _. ⌜ now (out .exit) ≡ laidStream (now (out .entry)) (streamOf (now (file .entry)) number (length (now (out .entry)))) .buf ⌝ }
+{
+    let a = read_stream(file, number, out);
+    report_stream(a, at, len)
 }
