@@ -345,7 +345,7 @@ fn show(path: &[u8], which: StreamKind) {
     if n == 1_048_576 {
         io::write_all(
             STDERR_FILENO,
-            b"records: only the first 1,048,576 bytes are read\n",
+            b"dump_records: only the first 1,048,576 bytes are read\n",
         );
     }
     table(&buffer[..n], which);
@@ -364,6 +364,13 @@ fn titled(word: &[u8], path: &[u8]) {
     }
 }
 
+fn usage() {
+    io::write_all(
+        STDERR_FILENO,
+        b"dump_records: prints the records of type and id streams\nusage: dump_records types FILE | ids FILE ...    streams 2 and 4 of a .pdb, as `llvm-pdbutil export` writes them\n",
+    );
+}
+
 fn pair(i: usize)
     requires { ⌜ i < 4096 ⌝ }
 {
@@ -379,11 +386,16 @@ fn pair(i: usize)
         titled(&word[..n], &path[..m]);
         return;
     }
-    io::write_all(STDERR_FILENO, b"records: give `types FILE` or `ids FILE`\n");
+    usage();
 }
 
+// Words come with their files, so with the program's own name the number of arguments is odd.
 fn main() {
     let count = os::arg_count();
+    if (count < 3) | (count % 2 == 0) {
+        usage();
+        return;
+    }
     let mut i = 1;
     while i < count {
         if 4096 <= i {

@@ -5,6 +5,7 @@ use checked_calls::calls::SizeAnswer;
 use codeview::index::IdIndex;
 use codeview::index::TypeIndex;
 use files::say;
+use libc::STDERR_FILENO;
 use libc::STDOUT_FILENO;
 use streams::chains::check_stream;
 use streams::refusal::Refusal;
@@ -153,8 +154,18 @@ fn argument(i: usize) {
     show_pair(&name[..n]);
 }
 
+fn usage() {
+    io::write_all(
+        STDERR_FILENO,
+        b"test_vectors: prints the texts and sizes of pairs of streams\nusage: test_vectors NAME...    for NAME-types.bin and NAME-ids.bin, as `llvm-pdbutil export` writes them\n",
+    );
+}
+
 fn main() {
     let count = os::arg_count();
+    if count < 2 {
+        usage();
+    }
     let mut i = 1;
     while i < count {
         argument(i);

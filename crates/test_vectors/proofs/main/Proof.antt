@@ -15,6 +15,9 @@ abbrev μ-loop : tie.MeasureT-loop
 arg-count-requires : tie.Need-arg-count-requires Inv-loop μ-loop
 arg-count-requires c κs = search needs
 
+usage-requires : tie.Need-usage-requires Inv-loop μ-loop
+usage-requires c κs = search needs
+
 loop-holds : tie.Need-loop-holds Inv-loop μ-loop
 loop-holds c = tt
 
@@ -40,6 +43,7 @@ main-spec =
     Inv-loop
     μ-loop
     arg-count-requires
+    usage-requires
     loop-holds
     argument-requires
     add-i
