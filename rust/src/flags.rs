@@ -1,5 +1,6 @@
 //! Flags for a `TypeFormatter`, with the names and the default of the original.
-use std::ops::{BitAnd, BitOr, BitOrAssign, Sub};
+use std::fmt;
+use std::ops::{BitAnd, BitOr, BitOrAssign, BitXor, BitXorAssign, Not, Sub};
 
 /// Flags for [`TypeFormatter`](crate::TypeFormatter).
 ///
@@ -10,8 +11,9 @@ use std::ops::{BitAnd, BitOr, BitOrAssign, Sub};
 /// assert!(flags.contains(TypeFormatterFlags::NAME_ONLY));
 /// assert_eq!(flags.bits(), 0x30);
 /// assert_eq!(TypeFormatterFlags::from_bits(0x40), None);
+/// assert_eq!(format!("{flags:?}"), "TypeFormatterFlags(NAME_ONLY | NO_ARGUMENTS)");
 /// ```
-#[derive(Clone, Copy, Debug, PartialEq, Eq, Hash)]
+#[derive(Clone, Copy, PartialEq, Eq, Hash)]
 pub struct TypeFormatterFlags(u32);
 
 impl TypeFormatterFlags {
@@ -32,6 +34,16 @@ impl TypeFormatterFlags {
 
     /// Do not print a functions argument types.
     pub const NO_ARGUMENTS: Self = Self(0b100000);
+
+    /// Each flag with its name.
+    pub const NAMES: [(&'static str, Self); 6] = [
+        ("NO_FUNCTION_RETURN", Self::NO_FUNCTION_RETURN),
+        ("NO_MEMBER_FUNCTION_STATIC", Self::NO_MEMBER_FUNCTION_STATIC),
+        ("SPACE_AFTER_COMMA", Self::SPACE_AFTER_COMMA),
+        ("SPACE_BEFORE_POINTER", Self::SPACE_BEFORE_POINTER),
+        ("NAME_ONLY", Self::NAME_ONLY),
+        ("NO_ARGUMENTS", Self::NO_ARGUMENTS),
+    ];
 
     /// No flag.
     pub const fn empty() -> Self {
@@ -87,6 +99,11 @@ impl TypeFormatterFlags {
         Self(self.0 | other.0)
     }
 
+    /// These flags without the others.
+    pub const fn difference(self, other: Self) -> Self {
+        Self(self.0 & !other.0)
+    }
+
     /// Sets the other flags.
     pub fn insert(&mut self, other: Self) {
         self.0 |= other.0;
@@ -139,6 +156,42 @@ impl Sub for TypeFormatterFlags {
     type Output = Self;
 
     fn sub(self, other: Self) -> Self {
-        Self(self.0 & !other.0)
+        self.difference(other)
+    }
+}
+
+impl BitXor for TypeFormatterFlags {
+    type Output = Self;
+
+    fn bitxor(self, other: Self) -> Self {
+        Self(self.0 ^ other.0)
+    }
+}
+
+impl BitXorAssign for TypeFormatterFlags {
+    fn bitxor_assign(&mut self, other: Self) {
+        self.0 ^= other.0;
+    }
+}
+
+impl Not for TypeFormatterFlags {
+    type Output = Self;
+
+    /// The flags that are not set. Bits that are no flag are left out.
+    fn not(self) -> Self {
+        Self::all().difference(self)
+    }
+}
+
+/// The names of the flags, as `TypeFormatterFlags(NO_FUNCTION_RETURN | NAME_ONLY)`; `empty` where there is none, and bits that are no flag in hexadecimal.
+impl fmt::Debug for TypeFormatterFlags {
+    fn fmt(&self, f: &mut fmt::Formatter<'_>) -> fmt::Result {
+        let unknown = self.difference(Self::all());
+        let mut names: Vec<_> = Self::NAMES.iter().filter(|(_, flag)| self.contains(*flag)).map(|(name, _)| name.to_string()).collect();
+        if !unknown.is_empty() {
+            names.push(format!("{:#x}", unknown.0));
+        }
+        let shown = if names.is_empty() { "empty".to_string() } else { names.join(" | ") };
+        write!(f, "TypeFormatterFlags({shown})")
     }
 }
