@@ -11,10 +11,9 @@ fn main() {
     let archive = folder.join("libyokberd.a");
     println!("cargo:rerun-if-changed={}", archive.display());
     if !archive.is_file() {
-        eprintln!("{} is not there. Run `rt staticlib yokberd` in the folder above rust/, or set YOKBERD_LIB_DIR.", archive.display());
-        std::process::exit(1);
+        // no error: `cargo doc` and `cargo check` need no library
+        println!("cargo:warning=libyokberd.a is not there, so nothing can be linked: run `rt staticlib yokberd` in the folder above rust/, or set YOKBERD_LIB_DIR");
     }
-    let folder = folder.canonicalize().unwrap();
-    println!("cargo:rustc-link-search=native={}", folder.display());
+    println!("cargo:rustc-link-search=native={}", folder.canonicalize().unwrap_or(folder).display());
     println!("cargo:rustc-link-lib=static=yokberd");
 }

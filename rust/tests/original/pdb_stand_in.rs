@@ -159,7 +159,7 @@ impl<'t, I: ItemIndex> ItemFinder<'t, I> {
 
     pub fn update(&mut self, iter: &ItemIter<'t, I>) {
         let number = iter.next - FIRST;
-        if number.is_multiple_of(STRIDE) && (number / STRIDE) as usize == self.places.len() {
+        if number % STRIDE == 0 && (number / STRIDE) as usize == self.places.len() {
             self.places.push(iter.at as u32);
         }
         self.max = self.max.max(iter.next);

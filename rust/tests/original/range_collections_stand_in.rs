@@ -55,7 +55,7 @@ impl Sub for &RangeSet2<u32> {
 fn without((start, end): (u32, Option<u32>), from: u32, to: Option<u32>) -> Vec<(u32, Option<u32>)> {
     let before = (start, Some(end.map_or(from, |end| end.min(from))));
     let behind = to.map(|to| (start.max(to), end));
-    let held = |range: &(u32, Option<u32>)| range.1.is_none_or(|end| range.0 < end);
+    let held = |range: &(u32, Option<u32>)| range.1.map_or(true, |end| range.0 < end);
     [Some(before), behind].into_iter().flatten().filter(held).collect()
 }
 
