@@ -3,7 +3,8 @@
 //! The library asks nothing of the numbers and bytes that it is lent: bad ones are refused. What it asks is what Rust's slices and references are by
 //! themselves: pointers that are not null and aligned, to as many elements as the length says, at most `isize::MAX` bytes, a lent buffer that nothing else
 //! reaches while the call runs. So the safe functions have nothing left to test. They turn a refusal into an [`Error`].
-use crate::Error;
+use crate::{ContainerError, Error, IdIndex, TypeIndex};
+use std::ops::Range;
 
 /// How much a sheet call printed.
 ///
@@ -18,9 +19,39 @@ pub struct Printed {
     pub more: bool,
 }
 
+/// What a batch says of one index: where its text lies in the lent buffer, or why it has none.
+#[derive(Clone, Copy, Debug, Default, PartialEq, Eq)]
+#[repr(C)]
+pub struct BatchAnswer {
+    refusal: u64,
+    detail: u64,
+    start: u64,
+    len: u64,
+}
+
+impl BatchAnswer {
+    /// Where the text lies in the buffer of the call, or the refusal.
+    pub fn range(&self) -> Result<Range<usize>, Error> {
+        answer(self.refusal as u32, self.detail as u32, self.start as usize..(self.start + self.len) as usize)
+    }
+
+    /// The text, of the buffer that the call was lent, or the refusal.
+    ///
+    /// # Panics
+    ///
+    /// Where `out` is another buffer, in which there is no such range.
+    pub fn text<'a>(&self, out: &'a [u8]) -> Result<&'a [u8], Error> {
+        self.range().map(|range| &out[range])
+    }
+}
+
+// The numbers that the library fills in for one index.
+const NUMBERS: usize = 4;
+
 mod library {
     // `rt staticlib yokberd` builds it; c/yokberd.h documents it.
     extern "C" {
+        pub fn yokberd_read_stream(file: *const u8, file_len: usize, stream: u32, out: *mut u8, out_len: usize, at: *mut usize, len: *mut usize) -> u32;
         pub fn yokberd_check_streams(
             types: *const u8,
             types_len: usize,
@@ -83,6 +114,36 @@ mod library {
             detail: *mut u32,
             size: *mut u64,
         ) -> u32;
+        pub fn yokberd_checked_format_ids(
+            types: *const u8,
+            types_len: usize,
+            ids: *const u8,
+            ids_len: usize,
+            checked: *const u32,
+            checked_len: usize,
+            out: *mut u8,
+            out_len: usize,
+            flags: u32,
+            pointer_size: u32,
+            indexes: *const u32,
+            indexes_len: usize,
+            answers: *mut u64,
+            answers_len: usize,
+        ) -> usize;
+        pub fn yokberd_checked_format_types(
+            types: *const u8,
+            types_len: usize,
+            checked: *const u32,
+            checked_len: usize,
+            out: *mut u8,
+            out_len: usize,
+            flags: u32,
+            pointer_size: u32,
+            indexes: *const u32,
+            indexes_len: usize,
+            answers: *mut u64,
+            answers_len: usize,
+        ) -> usize;
         pub fn yokberd_checked_print_sheet(
             types: *const u8,
             types_len: usize,
@@ -108,7 +169,18 @@ fn answer<T>(number: u32, detail: u32, value: T) -> Result<T, Error> {
     Err(Error::from_refusal(number, detail).expect("the library refuses by the numbers of its table"))
 }
 
-/// Checks both streams, and notes in `checked` what the five calls below go by. Gives how many numbers of it serve; where it has fewer, look-ups take longer.
+/// The bytes of a stream of a .pdb file in the start of `out`, and its length.
+pub fn read_stream(file: &[u8], stream: u32, out: &mut [u8]) -> Result<usize, ContainerError> {
+    let (mut at, mut len) = (0, 0);
+    // SAFETY: the pointers and lengths are those of slices that live through the call, and `out` and the two numbers are lent to it alone.
+    let number = unsafe { library::yokberd_read_stream(file.as_ptr(), file.len(), stream, out.as_mut_ptr(), out.len(), &mut at, &mut len) };
+    if number == 0 {
+        return Ok(len);
+    }
+    Err(ContainerError::from_case(number, at).expect("the library refuses by the numbers of its table"))
+}
+
+/// Checks both streams, and notes in `checked` what the seven calls below go by. Gives how many numbers of it serve; where it has fewer, look-ups take longer.
 pub fn check_streams(types: &[u8], ids: &[u8], stride: u32, checked: &mut [u32]) -> usize {
     // SAFETY: the pointers and lengths are those of slices that live through the call, and `checked` is lent to it alone.
     unsafe { library::yokberd_check_streams(types.as_ptr(), types.len(), ids.as_ptr(), ids.len(), stride, checked.as_mut_ptr(), checked.len()) }
@@ -182,6 +254,68 @@ pub fn format_type(types: &[u8], checked: &[u32], out: &mut [u8], flags: u32, po
         )
     };
     answer(number, detail, text_len)
+}
+
+/// The texts of ids, one behind another from the start of `out`, with an answer for each; gives how many of the ids are done.
+#[allow(clippy::too_many_arguments)]
+pub fn format_ids(
+    types: &[u8],
+    ids: &[u8],
+    checked: &[u32],
+    out: &mut [u8],
+    flags: u32,
+    pointer_size: u32,
+    indexes: &[IdIndex],
+    answers: &mut [BatchAnswer],
+) -> usize {
+    // SAFETY: as in `format_function`. An index is laid out as its number, and an answer as four numbers, any of which are good.
+    unsafe {
+        library::yokberd_checked_format_ids(
+            types.as_ptr(),
+            types.len(),
+            ids.as_ptr(),
+            ids.len(),
+            checked.as_ptr(),
+            checked.len(),
+            out.as_mut_ptr(),
+            out.len(),
+            flags,
+            pointer_size,
+            indexes.as_ptr().cast(),
+            indexes.len(),
+            answers.as_mut_ptr().cast(),
+            answers.len() * NUMBERS,
+        )
+    }
+}
+
+/// The texts of types in the same form.
+pub fn format_types(
+    types: &[u8],
+    checked: &[u32],
+    out: &mut [u8],
+    flags: u32,
+    pointer_size: u32,
+    indexes: &[TypeIndex],
+    answers: &mut [BatchAnswer],
+) -> usize {
+    // SAFETY: as in `format_ids`.
+    unsafe {
+        library::yokberd_checked_format_types(
+            types.as_ptr(),
+            types.len(),
+            checked.as_ptr(),
+            checked.len(),
+            out.as_mut_ptr(),
+            out.len(),
+            flags,
+            pointer_size,
+            indexes.as_ptr().cast(),
+            indexes.len(),
+            answers.as_mut_ptr().cast(),
+            answers.len() * NUMBERS,
+        )
+    }
 }
 
 /// The size of a type.

@@ -1,7 +1,8 @@
 //! `TypeFormatter`: the API of the original over the proved library.
-use crate::{boundary, Error, IdIndex, Printed, Sheet, TypeFormatterFlags, TypeIndex};
+use crate::{boundary, BatchAnswer, Error, IdIndex, Printed, Sheet, TypeFormatterFlags, TypeIndex};
 use std::cell::Cell;
 use std::fmt::Write;
+use std::ops::Range;
 
 type Result<T> = std::result::Result<T, Error>;
 
@@ -11,8 +12,8 @@ pub const TEXT_LIMIT: usize = 1 << 20;
 // How many records apart the places are that a formatter notes: so a look-up passes seven records at most.
 const STRIDE: u32 = 8;
 
-// The longest stream that is not refused.
-const STREAM_LIMIT: usize = 1 << 24;
+/// The longest stream that is not refused, in bytes.
+pub const STREAM_LIMIT: usize = 1 << 24;
 
 // A text is written into a buffer of its thread and then copied out. Where it does not fit, it is asked for again with a buffer so many times as long. The
 // thread keeps one of this length at most: what is kept and lent is filled with zeros by a refused call.
@@ -25,8 +26,11 @@ thread_local! {
     static BUFFER: Cell<Vec<u8>> = const { Cell::new(Vec::new()) };
 }
 
-// A buffer for a sheet's lines: any one line has at most 4,150 bytes.
+// A buffer for a sheet's lines, of which any one has at most 4,150 bytes, and for the texts of a batch.
 const PAGE: usize = 1 << 16;
+
+// How many indexes one call of a batch answers at most.
+const BATCH: usize = 1 << 10;
 
 /// Allows printing function signatures, for example for use in stack traces.
 ///
@@ -151,6 +155,66 @@ impl<'a> TypeFormatter<'a> {
         self.text(|out| self.format_type_into(out, module_index, index), |text| write_text(w, text))?
     }
 
+    /// The texts of many ids: for each what [`format_id`](Self::format_id) gives. Each stream is checked once, when the formatter is made.
+    ///
+    /// ```
+    /// use yokberd::{Error, IdIndex, TypeFormatter, TypeFormatterFlags};
+    ///
+    /// let types = std::fs::read("../crates/test_vectors/data/overloads-types.bin")?;
+    /// let ids = std::fs::read("../crates/test_vectors/data/overloads-ids.bin")?;
+    /// let formatter = TypeFormatter::new_from_parts(&types, &ids, 8, TypeFormatterFlags::default());
+    /// let texts = formatter.format_ids(&[IdIndex(0x1001), IdIndex(0x1002), IdIndex(0x8000_1001)]);
+    /// assert_eq!(texts, [Ok("loom::advance(float)".into()), Ok("loom::advance(int)".into()), Err(Error::CrossModule(0x8000_1001))]);
+    /// # Ok::<(), std::io::Error>(())
+    /// ```
+    pub fn format_ids(&self, indexes: &[IdIndex]) -> Vec<Result<String>> {
+        self.ids_by(indexes, into_string)
+    }
+
+    /// [`format_ids`](Self::format_ids) as bytes.
+    pub fn format_ids_bytes(&self, indexes: &[IdIndex]) -> Vec<Result<Vec<u8>>> {
+        self.ids_by(indexes, <[u8]>::to_vec)
+    }
+
+    /// [`format_ids`](Self::format_ids) into lent buffers; gives how many of the ids are done.
+    ///
+    /// The texts lie one behind another from the start of `out`, and every byte behind them is 0; the answer of each id that is done says where its text is.
+    /// It ends early where `answers` is full or where the next text does not fit behind the others: ask again with the rest. A text that is longer than the
+    /// whole of `out` is refused ([`Error::NoRoom`]), and its id is done: so a call with an id and an answer does one at least. Nothing is allocated.
+    pub fn format_ids_into(&self, out: &mut [u8], answers: &mut [BatchAnswer], indexes: &[IdIndex]) -> usize {
+        boundary::format_ids(self.types, self.ids, &self.checked, out, self.flags.bits(), self.ptr_size.into(), indexes, answers)
+    }
+
+    /// The texts of many types: for each what [`format_type`](Self::format_type) gives.
+    pub fn format_types(&self, indexes: &[TypeIndex]) -> Vec<Result<String>> {
+        self.types_by(indexes, into_string)
+    }
+
+    /// [`format_types`](Self::format_types) as bytes.
+    pub fn format_types_bytes(&self, indexes: &[TypeIndex]) -> Vec<Result<Vec<u8>>> {
+        self.types_by(indexes, <[u8]>::to_vec)
+    }
+
+    /// [`format_types`](Self::format_types) into lent buffers, in the way of [`format_ids_into`](Self::format_ids_into).
+    pub fn format_types_into(&self, out: &mut [u8], answers: &mut [BatchAnswer], indexes: &[TypeIndex]) -> usize {
+        boundary::format_types(self.types, &self.checked, out, self.flags.bits(), self.ptr_size.into(), indexes, answers)
+    }
+
+    /// The indexes of the type stream, or the refusal of each call over it.
+    pub fn type_indexes(&self) -> Result<Range<u32>> {
+        // a size asks for nothing but a stream that is accepted
+        boundary::get_type_size(self.types, &self.checked, 8, 0)?;
+        Ok(header_indexes(self.types))
+    }
+
+    /// The indexes of the id stream, or the refusal of each call over it. Such a call needs the type stream too.
+    pub fn id_indexes(&self) -> Result<Range<u32>> {
+        match boundary::format_id(self.types, self.ids, &self.checked, &mut [], 0, 8, 0) {
+            Err(error @ (Error::Header(_) | Error::Tiling(_))) => Err(error),
+            _ => Ok(header_indexes(self.ids)),
+        }
+    }
+
     /// A sheet that starts with the formatter's flags and pointer size.
     pub fn sheet(&self) -> Sheet {
         let mut sheet = Sheet::new();
@@ -178,6 +242,38 @@ impl<'a> TypeFormatter<'a> {
     /// with as many more to skip as lines were printed. A buffer of 4,150 bytes takes any one line. The bytes behind the lines stay as they were.
     pub fn print_sheet(&self, sheet: &Sheet, out: &mut [u8], skip: usize) -> Printed {
         boundary::print_sheet(self.types, self.ids, &self.checked, sheet.as_bytes(), out, skip)
+    }
+
+    fn ids_by<T>(&self, indexes: &[IdIndex], made_of: fn(&[u8]) -> T) -> Vec<Result<T>> {
+        let call = |out: &mut [u8], answers: &mut [BatchAnswer], rest: &[IdIndex]| self.format_ids_into(out, answers, rest);
+        self.batches(indexes, call, |index| self.text(|out| self.format_id_into(out, 0, index), made_of), made_of)
+    }
+
+    fn types_by<T>(&self, indexes: &[TypeIndex], made_of: fn(&[u8]) -> T) -> Vec<Result<T>> {
+        let call = |out: &mut [u8], answers: &mut [BatchAnswer], rest: &[TypeIndex]| self.format_types_into(out, answers, rest);
+        self.batches(indexes, call, |index| self.text(|out| self.format_type_into(out, 0, index), made_of), made_of)
+    }
+
+    // What is made of the texts of many indexes, in as many calls as it takes; a text that a page is too short for is asked for alone.
+    fn batches<I: Copy, T>(
+        &self,
+        indexes: &[I],
+        call: impl Fn(&mut [u8], &mut [BatchAnswer], &[I]) -> usize,
+        alone: impl Fn(I) -> Result<T>,
+        made_of: fn(&[u8]) -> T,
+    ) -> Vec<Result<T>> {
+        let mut page = vec![0; PAGE.min(self.text_limit)];
+        let mut answers = vec![BatchAnswer::default(); indexes.len().min(BATCH)];
+        let mut all = Vec::with_capacity(indexes.len());
+        while all.len() < indexes.len() {
+            let rest = &indexes[all.len()..];
+            let done = call(&mut page, &mut answers, rest);
+            all.extend(rest[..done].iter().zip(&answers).map(|(index, answer)| match answer.text(&page) {
+                Err(Error::NoRoom) if page.len() < self.text_limit => alone(*index),
+                text => text.map(made_of),
+            }));
+        }
+        all
     }
 
     // What is made of a text, which is written into a buffer that is long enough for it, up to the limit.
@@ -212,9 +308,13 @@ fn check(types: &[u8], ids: &[u8]) -> Vec<u32> {
 // Numbers for a stream: ten for what is known of it, and its places, by what its header says of its records. Each of these has four bytes at least, and a stream that
 // is longer than the limit is refused, so a header that says more makes no buffer longer.
 fn numbers(stream: &[u8]) -> usize {
+    header_indexes(stream).len().min(stream.len().min(STREAM_LIMIT) / 4).div_ceil(STRIDE as usize) + 10
+}
+
+// The first index and the one behind the last, as the header has them; none where it has fewer bytes.
+fn header_indexes(stream: &[u8]) -> Range<u32> {
     let word = |at: usize| stream.get(at..at + 4).map_or(0, |bytes| u32::from_le_bytes([bytes[0], bytes[1], bytes[2], bytes[3]]));
-    let records = word(12).saturating_sub(word(8)) as usize;
-    records.min(stream.len().min(STREAM_LIMIT) / 4).div_ceil(STRIDE as usize) + 10
+    word(8)..word(12)
 }
 
 // The text where it is UTF-8; else a copy with each ill-formed part replaced.

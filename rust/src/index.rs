@@ -3,10 +3,12 @@ use std::fmt;
 
 /// The index of a record of the type stream, or, below 0x1000, of a primitive type.
 #[derive(Clone, Copy, Debug, Default, PartialEq, Eq, PartialOrd, Ord, Hash)]
+#[repr(transparent)]
 pub struct TypeIndex(pub u32);
 
 /// The index of a record of the id stream.
 #[derive(Clone, Copy, Debug, Default, PartialEq, Eq, PartialOrd, Ord, Hash)]
+#[repr(transparent)]
 pub struct IdIndex(pub u32);
 
 impl From<u32> for TypeIndex {

@@ -37,15 +37,19 @@
 #![warn(missing_docs)]
 
 mod boundary;
+mod container;
 mod error;
 mod flags;
 mod formatter;
 mod index;
+mod pdb;
 mod sheet;
 
-pub use boundary::Printed;
+pub use boundary::{BatchAnswer, Printed};
+pub use container::{read_stream, read_stream_into, stream_len, ContainerError, IDS_STREAM, TYPES_STREAM};
 pub use error::{Error, StreamKind};
 pub use flags::TypeFormatterFlags;
-pub use formatter::{TypeFormatter, TEXT_LIMIT};
+pub use formatter::{TypeFormatter, STREAM_LIMIT, TEXT_LIMIT};
 pub use index::{IdIndex, TypeIndex};
+pub use pdb::{Pdb, PdbError};
 pub use sheet::{Sheet, NAME_WIDTH};

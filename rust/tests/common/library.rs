@@ -104,6 +104,62 @@ extern "C" {
         detail: *mut u32,
         size: *mut u64,
     ) -> u32;
+    fn yokberd_format_ids(
+        types: *const u8,
+        types_len: usize,
+        ids: *const u8,
+        ids_len: usize,
+        out: *mut u8,
+        out_len: usize,
+        flags: u32,
+        pointer_size: u32,
+        indexes: *const u32,
+        indexes_len: usize,
+        answers: *mut u64,
+        answers_len: usize,
+    ) -> usize;
+    fn yokberd_format_types(
+        types: *const u8,
+        types_len: usize,
+        out: *mut u8,
+        out_len: usize,
+        flags: u32,
+        pointer_size: u32,
+        indexes: *const u32,
+        indexes_len: usize,
+        answers: *mut u64,
+        answers_len: usize,
+    ) -> usize;
+    fn yokberd_checked_format_ids(
+        types: *const u8,
+        types_len: usize,
+        ids: *const u8,
+        ids_len: usize,
+        checked: *const u32,
+        checked_len: usize,
+        out: *mut u8,
+        out_len: usize,
+        flags: u32,
+        pointer_size: u32,
+        indexes: *const u32,
+        indexes_len: usize,
+        answers: *mut u64,
+        answers_len: usize,
+    ) -> usize;
+    fn yokberd_checked_format_types(
+        types: *const u8,
+        types_len: usize,
+        checked: *const u32,
+        checked_len: usize,
+        out: *mut u8,
+        out_len: usize,
+        flags: u32,
+        pointer_size: u32,
+        indexes: *const u32,
+        indexes_len: usize,
+        answers: *mut u64,
+        answers_len: usize,
+    ) -> usize;
     fn yokberd_print_sheet(
         types: *const u8,
         types_len: usize,
@@ -132,6 +188,13 @@ extern "C" {
         bytes: *mut usize,
         lines: *mut usize,
     ) -> u32;
+}
+
+/// What a batch is asked for.
+#[derive(Clone, Copy, Debug)]
+pub enum Batch {
+    Ids,
+    Types,
 }
 
 /// Two streams and settings.
@@ -207,6 +270,37 @@ impl Plain<'_> {
             unsafe { yokberd_checked_print_sheet(types, types_len, ids, ids_len, places, count, sheet, sheet_len, at, room, skip, bytes_at, lines_at) };
         assert!(left <= 1);
         (left == 1, bytes, lines)
+    }
+
+    /// Many ids or types, four numbers each; gives how many are done. It checks its streams.
+    pub fn batch(&self, what: Batch, indexes: &[u32], out: &mut [u8], answers: &mut [u64]) -> usize {
+        let (types, types_len, ids, ids_len) = (self.types.as_ptr(), self.types.len(), self.ids.as_ptr(), self.ids.len());
+        let (flags, pointer_size, at, room) = (self.flags, self.pointer_size, out.as_mut_ptr(), out.len());
+        let (indexes, count, answers, slots) = (indexes.as_ptr(), indexes.len(), answers.as_mut_ptr(), answers.len());
+        // SAFETY: as in `ask`.
+        unsafe {
+            match what {
+                Batch::Ids => yokberd_format_ids(types, types_len, ids, ids_len, at, room, flags, pointer_size, indexes, count, answers, slots),
+                Batch::Types => yokberd_format_types(types, types_len, at, room, flags, pointer_size, indexes, count, answers, slots),
+            }
+        }
+    }
+
+    /// The same over any numbers.
+    pub fn batch_checked(&self, checked: &[u32], what: Batch, indexes: &[u32], out: &mut [u8], answers: &mut [u64]) -> usize {
+        let (types, types_len, ids, ids_len) = (self.types.as_ptr(), self.types.len(), self.ids.as_ptr(), self.ids.len());
+        let (flags, size, at, room) = (self.flags, self.pointer_size, out.as_mut_ptr(), out.len());
+        let (indexes, count, answers, slots) = (indexes.as_ptr(), indexes.len(), answers.as_mut_ptr(), answers.len());
+        let (places, len) = (checked.as_ptr(), checked.len());
+        // SAFETY: as in `ask`.
+        unsafe {
+            match what {
+                Batch::Ids => {
+                    yokberd_checked_format_ids(types, types_len, ids, ids_len, places, len, at, room, flags, size, indexes, count, answers, slots)
+                }
+                Batch::Types => yokberd_checked_format_types(types, types_len, places, len, at, room, flags, size, indexes, count, answers, slots),
+            }
+        }
     }
 
     /// Checks both streams; gives how many numbers serve.
