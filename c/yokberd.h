@@ -6,8 +6,9 @@
  * What a call asks of its caller is what C cannot state in a type:
  *
  * - No pointer is null, one with a length of 0 too. Each is aligned and points to as many elements as its length says, of at most PTRDIFF_MAX bytes.
- * - What a call writes (out, checked where it is filled, detail, text_len, size, bytes, lines) overlaps nothing else that it is lent, and no other thread
- *   touches it during the call. What it only reads is changed by no one during the call. Calls from any number of threads may share what is only read.
+ * - What a call writes (out, checked where it is filled, answers, detail, text_len, size, bytes, lines, at, len) overlaps nothing else that it is lent, and
+ *   no other thread touches it during the call. What it only reads is changed by no one during the call. Calls from any number of threads may share what is
+ *   only read.
  * - 512 KiB of stack. A thread of glibc has 8 MiB where nothing else is said.
  *
  * A call keeps nothing, allocates nothing and calls nothing but memcpy and memset.
@@ -35,6 +36,11 @@
 extern "C" {
 #endif
 
+#define YOKBERD_VERSION_MAJOR 0
+#define YOKBERD_VERSION_MINOR 2
+#define YOKBERD_VERSION_PATCH 0
+#define YOKBERD_VERSION "0.2.0"
+
 /* Flags, to be added up. Another bit is refused: YOKBERD_UNKNOWN_FLAGS. */
 #define YOKBERD_NO_FUNCTION_RETURN 0x01u        /* no result before the function's name */
 #define YOKBERD_NO_MEMBER_FUNCTION_STATIC 0x02u /* no `static ` before a static method */
@@ -42,6 +48,10 @@ extern "C" {
 #define YOKBERD_SPACE_BEFORE_POINTER 0x08u      /* int * */
 #define YOKBERD_NAME_ONLY 0x10u                 /* A, not struct A */
 #define YOKBERD_NO_ARGUMENTS 0x20u              /* no argument list */
+
+/* What pdb-addr2line takes where no flags are given. */
+#define YOKBERD_DEFAULT_FLAGS \
+    (YOKBERD_NO_FUNCTION_RETURN | YOKBERD_NO_MEMBER_FUNCTION_STATIC | YOKBERD_SPACE_AFTER_COMMA | YOKBERD_NAME_ONLY)
 
 /* What a call returns: YOKBERD_ACCEPTED, or the number of a refusal. The comment says what *detail then is. */
 enum yokberd_number {
@@ -63,6 +73,87 @@ enum yokberd_number {
     YOKBERD_NO_ROOM = 15,                                        /* 0: the text is longer than out */
     YOKBERD_UNKNOWN_COMMAND = 16                                 /* the command byte; only a line of a sheet has this number */
 };
+
+/* A number of these in words. */
+static inline const char *yokberd_refusal_text(uint32_t number) {
+    switch (number) {
+    case YOKBERD_ACCEPTED: return "accepted";
+    case YOKBERD_UNKNOWN_FLAGS: return "the flags have a bit that is no flag";
+    case YOKBERD_POINTER_SIZE: return "the pointer size is not 4, 8 or 16";
+    case YOKBERD_HEADER: return "the header of a stream is broken, or the stream is too long";
+    case YOKBERD_TILING: return "the records of a stream do not fill the bytes that its header names";
+    case YOKBERD_MALFORMED: return "a record that is needed is malformed";
+    case YOKBERD_CROSS_MODULE: return "an index is one of another module";
+    case YOKBERD_UNLISTED_KIND: return "a record that is needed has a kind that is not read";
+    case YOKBERD_MISSING: return "an index is not in its stream";
+    case YOKBERD_ARGUMENT_TYPE_NOT_ARGUMENT_LIST: return "the argument list of a method is no argument list";
+    case YOKBERD_FUNCTION_ID_IS_NOT_PROCEDURE_TYPE: return "the type of a function id is no procedure";
+    case YOKBERD_MEMBER_FUNCTION_ID_IS_NOT_MEMBER_FUNCTION_TYPE: return "the type of a member function id is no member function";
+    case YOKBERD_CIRCULAR_TYPE_DEFINITION: return "a type is circular";
+    case YOKBERD_TOO_MANY_OPEN: return "a 97th index would be open at once";
+    case YOKBERD_CHAIN_TOO_LONG: return "a chain of array levels, size steps or id scopes has more than 32 records";
+    case YOKBERD_NO_ROOM: return "the text is longer than its buffer";
+    case YOKBERD_UNKNOWN_COMMAND: return "a command of a sheet is unknown or cut";
+    default: return "no refusal has this number";
+    }
+}
+
+/* What yokberd_read_stream returns: YOKBERD_CONTAINER_READ, or why the stream cannot be read. The comment says what *at then is: where a file offset is
+ * said, it is that of the number that is wrong. */
+enum yokberd_container {
+    YOKBERD_CONTAINER_READ = 0,            /* 0 */
+    YOKBERD_CONTAINER_SHORT = 1,           /* the file's length, which is below 56 */
+    YOKBERD_CONTAINER_MAGIC = 2,           /* the first byte that differs from those that a .pdb file starts with */
+    YOKBERD_CONTAINER_BLOCK_SIZE = 3,      /* 32: no power of two from 512 to 32,768 */
+    YOKBERD_CONTAINER_FREE_BLOCK_MAP = 4,  /* 36: neither 1 nor 2 */
+    YOKBERD_CONTAINER_CUT = 5,             /* 40: the file has fewer bytes than its blocks take */
+    YOKBERD_CONTAINER_DIRECTORY_SIZE = 6,  /* 44: 0, no multiple of 4, or more than a block can list the blocks of */
+    YOKBERD_CONTAINER_BLOCK_MAP = 7,       /* 52: the block that lists those of the directory is outside the file */
+    YOKBERD_CONTAINER_DIRECTORY_BLOCK = 8, /* the offset of a block of the directory that is outside the file */
+    YOKBERD_CONTAINER_DIRECTORY = 9,       /* the offset of the directory, which the streams do not fill exactly */
+    YOKBERD_CONTAINER_STREAM_BLOCK = 10,   /* the offset of a block of a stream that is outside the file */
+    YOKBERD_CONTAINER_NO_STREAM = 11,      /* the offset of the number of streams, or of the stream's size where that says that it is not there */
+    YOKBERD_CONTAINER_NO_ROOM = 12         /* the stream's length, which is more than out_len */
+};
+
+/* A number of these in words. */
+static inline const char *yokberd_container_text(uint32_t number) {
+    switch (number) {
+    case YOKBERD_CONTAINER_READ: return "read";
+    case YOKBERD_CONTAINER_SHORT: return "the file has fewer bytes than the header of a .pdb file";
+    case YOKBERD_CONTAINER_MAGIC: return "the file does not start as a .pdb file does";
+    case YOKBERD_CONTAINER_BLOCK_SIZE: return "the block size is none that a .pdb file has";
+    case YOKBERD_CONTAINER_FREE_BLOCK_MAP: return "the block of the free block map is neither 1 nor 2";
+    case YOKBERD_CONTAINER_CUT: return "the file has fewer bytes than its blocks take";
+    case YOKBERD_CONTAINER_DIRECTORY_SIZE: return "the length of the directory is none that a directory has";
+    case YOKBERD_CONTAINER_BLOCK_MAP: return "the block that lists the directory's blocks is outside the file";
+    case YOKBERD_CONTAINER_DIRECTORY_BLOCK: return "a block of the directory is outside the file";
+    case YOKBERD_CONTAINER_DIRECTORY: return "the streams do not fill the directory";
+    case YOKBERD_CONTAINER_STREAM_BLOCK: return "a block of a stream is outside the file";
+    case YOKBERD_CONTAINER_NO_STREAM: return "there is no such stream";
+    case YOKBERD_CONTAINER_NO_ROOM: return "the stream is longer than its buffer";
+    default: return "no case has this number";
+    }
+}
+
+/* The bytes of a stream of a .pdb file.
+ *
+ *   file            the whole file
+ *   stream          the stream's number: YOKBERD_TYPES_STREAM, YOKBERD_IDS_STREAM or another
+ *   out             the buffer for its bytes
+ *
+ * Read: returns YOKBERD_CONTAINER_READ. *len is the stream's length, its bytes are the first *len bytes of out, and the bytes behind them are as they were.
+ * *at is 0.
+ *
+ * Not read: returns the number of a case above, the first in their order that holds. *at is its place, *len is 0, and every byte of out is 0. So a call with
+ * an out_len of 0 tells the length to lend: YOKBERD_CONTAINER_NO_ROOM, in *at. A file can name one block many times, and so a length of up to 4 GiB, of
+ * which the other calls take no more than 16,777,216 bytes: see to it where files come from elsewhere.
+ *
+ * Takes a pass over the directory and the stream.
+ */
+#define YOKBERD_TYPES_STREAM 2
+#define YOKBERD_IDS_STREAM 4
+uint32_t yokberd_read_stream(const uint8_t *file, size_t file_len, uint32_t stream, uint8_t *out, size_t out_len, size_t *at, size_t *len);
 
 /* The text of a function, an id or a type.
  *
@@ -96,8 +187,9 @@ uint32_t yokberd_get_type_size(const uint8_t *types, size_t types_len, uint32_t 
 
 /* Streams checked once, for many calls over the same bytes.
  *
- * yokberd_check_streams checks both streams in one pass over their records, and notes in checked what the four calls below it and
- * yokberd_checked_print_sheet go by: the bounds of both streams, and the places of records from which a look-up starts. Where a program has no ids, lend no bytes of them.
+ * yokberd_check_streams checks both streams in one pass over their records, and notes in checked what the four calls below it, the two batches over checked
+ * streams and yokberd_checked_print_sheet go by: the bounds of both streams, and the places of records from which a look-up starts. Where a program has no
+ * ids, lend no bytes of them.
  *
  *   stride          how many records apart the noted places are: 8 serves best. 0: as near as there are numbers for
  *   checked         the numbers to fill: YOKBERD_CHECKED at least, and one for each place
@@ -130,6 +222,31 @@ uint32_t yokberd_checked_format_type(const uint8_t *types, size_t types_len, con
 
 uint32_t yokberd_checked_get_type_size(const uint8_t *types, size_t types_len, const uint32_t *checked, size_t checked_len, uint32_t pointer_size,
                                        uint32_t index, uint32_t *detail, uint64_t *size);
+
+/* Many ids, or many types, in one call, with each stream checked once; the last two go by the numbers of yokberd_check_streams and check none.
+ *
+ *   indexes         the ids or types to name
+ *   answers         YOKBERD_ANSWER numbers for each index: the refusal or 0, its detail or 0, where the text starts in out, and its length, 0 where refused
+ *
+ * The texts lie one behind another from the start of out, and every byte behind them is 0. Returns how many indexes are done, from the first on; the numbers
+ * of answers behind theirs are as they were. It ends early where answers is full, or where the next text does not fit behind the others: then ask again with
+ * the rest. A text that does not fit into the whole of out is refused by YOKBERD_NO_ROOM, and its index is done: so each call with an index and YOKBERD_ANSWER
+ * numbers does one at least. Each answer is the one that the single call with this out gives.
+ */
+#define YOKBERD_ANSWER 4
+size_t yokberd_format_ids(const uint8_t *types, size_t types_len, const uint8_t *ids, size_t ids_len, uint8_t *out, size_t out_len, uint32_t flags,
+                          uint32_t pointer_size, const uint32_t *indexes, size_t indexes_len, uint64_t *answers, size_t answers_len);
+
+size_t yokberd_format_types(const uint8_t *types, size_t types_len, uint8_t *out, size_t out_len, uint32_t flags, uint32_t pointer_size,
+                            const uint32_t *indexes, size_t indexes_len, uint64_t *answers, size_t answers_len);
+
+size_t yokberd_checked_format_ids(const uint8_t *types, size_t types_len, const uint8_t *ids, size_t ids_len, const uint32_t *checked, size_t checked_len,
+                                  uint8_t *out, size_t out_len, uint32_t flags, uint32_t pointer_size, const uint32_t *indexes, size_t indexes_len,
+                                  uint64_t *answers, size_t answers_len);
+
+size_t yokberd_checked_format_types(const uint8_t *types, size_t types_len, const uint32_t *checked, size_t checked_len, uint8_t *out, size_t out_len,
+                                    uint32_t flags, uint32_t pointer_size, const uint32_t *indexes, size_t indexes_len, uint64_t *answers,
+                                    size_t answers_len);
 
 /* Many calls in one, with each stream checked once. A sheet is a list of commands, numbers little-endian:
  *

@@ -1,17 +1,18 @@
 #!/bin/sh
 # Compiles c/example.c against c/yokberd.h and the library, runs it on a shipped pair of streams, and compares what it prints: the ids with the lines of
-# crates/test_vectors/stdout, which a reading of document 01 in Python made, the rest with lines worked out by hand. Then c/checked.c on all shipped pairs and
-# damaged copies: calls over streams checked once against the plain ones, and over any numbers. Both once more under a sanitizer, and, where it is installed,
-# under valgrind.
+# crates/test_vectors/stdout, which a reading of document 01 in Python made, the rest with lines worked out by hand. Then c/pdb.c, which names the ids of a .pdb
+# file in batches, on the same pair inside such a file, which tools/msf.py makes. Then c/checked.c on all shipped pairs and damaged copies: calls over streams
+# checked once against the plain ones, and over any numbers. All once more under a sanitizer, and, where it is installed, under valgrind; and one built by
+# pkg-config, where that is installed.
 #
-#     rt staticlib yokberd && tools/test-c.sh
+#     tools/staticlib.sh && tools/test-c.sh
 #
 # The last line is 'test-c: passed'; else the status is not 0.
 set -eu
 root=$(cd "$(dirname "$0")/.." && pwd)
 cd "$root"
 archive=${YOKBERD_LIB_DIR:-target/staticlib}/libyokberd.a
-[ -f "$archive" ] || { echo "test-c: $archive is not there: run rt staticlib yokberd" >&2; exit 1; }
+[ -f "$archive" ] || { echo "test-c: $archive is not there: run tools/staticlib.sh" >&2; exit 1; }
 work=$(mktemp -d)
 trap 'rm -rf "$work"' EXIT
 cc=${CC:-cc}
@@ -20,7 +21,12 @@ pairs=$(for types in crates/test_vectors/data/*-types.bin; do echo "$types" "${t
 
 # the section of `overloads` with the example's flags, 0x1e
 awk '/^== /{on = $2 == "overloads"; ids = 0; next} !/^0x/{ids = on && $0 == "ids flags 0x1e"; next} ids && $2 == 0 {sub(/ 0 0x0 /, " "); print}' \
-    crates/test_vectors/stdout >"$work/expected"
+    crates/test_vectors/stdout >"$work/ids"
+# c/pdb.c has room for texts of 200 bytes
+LC_ALL=C awk '{at = index($0, " "); print length($0) - at <= 200 ? $0 : substr($0, 1, at) "refused: the text is longer than its buffer, detail 0x0"}' \
+    "$work/ids" >"$work/expected-pdb"
+PYTHONDONTWRITEBYTECODE=1 python3 tools/msf.py make "$work/overloads.pdb" 512 - - "$pair-types.bin" - "$pair-ids.bin"
+cp "$work/ids" "$work/expected"
 cat >>"$work/expected" <<'END'
 function 0x1001 void advance(float)
 type 0x640 float*, 8 bytes
@@ -35,22 +41,47 @@ compare() {
     cmp "$work/printed" "$work/expected"
 }
 
+compare_pdb() {
+    "$@" "$work/overloads.pdb" >"$work/printed"
+    cmp "$work/printed" "$work/expected-pdb"
+}
+
 # the header's numbers are those of the library
 sed -n '/pub fn number/,/pub fn detail/s/^ *Refusal::\([A-Za-z]*\).* => \([0-9]*\),$/\1 \2/p' crates/streams/src/refusal.rt |
     sed 's/\([a-z]\)\([A-Z]\)/\1_\2/g' | tr '[:lower:]' '[:upper:]' >"$work/numbers"
-sed -n 's/^ *YOKBERD_\([A-Z_]*\) = \([1-9][0-9]*\).*/\1 \2/p' c/yokberd.h >"$work/named"
+sed -n '/^enum yokberd_number/,/^}/s/^ *YOKBERD_\([A-Z_]*\) = \([1-9][0-9]*\).*/\1 \2/p' c/yokberd.h >"$work/named"
 [ "$(wc -l <"$work/numbers")" -eq 16 ]
+cmp "$work/numbers" "$work/named"
+cat crates/msf/src/*.rt | sed -n '/pub fn number/,/pub fn place/s/^ *Damage::\([A-Za-z]*\).* => \([0-9]*\),$/\1 \2/p' |
+    sed 's/\([a-z]\)\([A-Z]\)/\1_\2/g' | tr '[:lower:]' '[:upper:]' >"$work/numbers"
+sed -n 's/^ *YOKBERD_CONTAINER_\([A-Z_]*\) = \([1-9][0-9]*\).*/\1 \2/p' c/yokberd.h >"$work/named"
+[ "$(wc -l <"$work/numbers")" -eq 12 ]
 cmp "$work/numbers" "$work/named"
 sed -n 's/^ *pub const \([A-Z_]*\): TypeFormatterFlags = TypeFormatterFlags(0b\([01_]*\));$/\1 \2/p' crates/context/src/flags.rt |
     awk '{gsub("_", "", $2); n = 0; for (i = 1; i <= length($2); i++) n = 2 * n + substr($2, i, 1); printf "%s 0x%02x\n", $1, n}' >"$work/flags"
 sed -n 's/^#define YOKBERD_\([A-Z_]*\) \(0x[0-9a-f]*\)u.*/\1 \2/p' c/yokberd.h >"$work/named"
 [ "$(wc -l <"$work/flags")" -eq 6 ]
 cmp "$work/flags" "$work/named"
-echo "test-c: the header names the library's 16 refusals and 6 flags"
+sed -n 's/^version = "\(.*\)"$/#define YOKBERD_VERSION "\1"/p' rust/Cargo.toml >"$work/version"
+grep -qxFf "$work/version" c/yokberd.h
+sed -n 's/^#define YOKBERD_VERSION_[A-Z]* //p' c/yokberd.h | paste -sd. | sed 's/.*/#define YOKBERD_VERSION "&"/' | cmp - "$work/version"
+echo "test-c: the header names the library's 16 refusals, 12 cases of the container and 6 flags, and the version of the Rust crate"
 
 "$cc" -std=c99 -Wall -Wextra -Wpedantic -Werror -O2 -Ic -o "$work/example" c/example.c "$archive"
 compare "$work/example"
 echo "test-c: $(wc -l <"$work/expected") lines as expected"
+"$cc" -std=c99 -Wall -Wextra -Wpedantic -Werror -O2 -Ic -o "$work/pdb" c/pdb.c "$archive"
+compare_pdb "$work/pdb"
+echo "test-c: $(wc -l <"$work/expected-pdb") names of a .pdb file as expected"
+described=$(dirname "$archive")/yokberd.pc
+if [ -f "$described" ] && command -v pkg-config >/dev/null; then
+    # shellcheck disable=SC2046
+    "$cc" -std=c99 -o "$work/found" c/pdb.c $(PKG_CONFIG_PATH=$(dirname "$described") pkg-config --cflags --libs yokberd)
+    compare_pdb "$work/found"
+    echo "test-c: the same by pkg-config, version $(PKG_CONFIG_PATH=$(dirname "$described") pkg-config --modversion yokberd)"
+else
+    echo "test-c: no pkg-config, or no yokberd.pc beside the library: not tried"
+fi
 if command -v c++ >/dev/null; then
     c++ -Wall -Wextra -Wpedantic -Werror -fsyntax-only -x c++ c/yokberd.h
     echo "test-c: the header is C++ too"
@@ -63,11 +94,14 @@ fi
     sanitized="$cc -std=c99 -g -fsanitize=address,undefined -fno-sanitize-recover=all -Ic"
     $sanitized -o "$work/sanitized" c/example.c "$archive"
     compare "$work/sanitized"
+    $sanitized -o "$work/pdb-sanitized" c/pdb.c "$archive"
+    compare_pdb "$work/pdb-sanitized"
     $sanitized -o "$work/checked-sanitized" c/checked.c "$archive"
     "$work/checked-sanitized" $pairs >/dev/null
     echo "test-c: the same with the address and undefined behaviour sanitizers"
     if command -v valgrind >/dev/null; then
         compare valgrind -q --error-exitcode=1 --leak-check=full "$work/example"
+        compare_pdb valgrind -q --error-exitcode=1 --leak-check=full "$work/pdb"
         valgrind -q --error-exitcode=1 --leak-check=full "$work/checked" $pairs >/dev/null
         echo "test-c: the same under valgrind"
     fi
