@@ -305,8 +305,8 @@ fn check(types: &[u8], ids: &[u8]) -> Vec<u32> {
     checked
 }
 
-// Numbers for a stream: ten for what is known of it, and its places, by what its header says of its records. Each of these has four bytes at least, and a stream that
-// is longer than the limit is refused, so a header that says more makes no buffer longer.
+// Numbers for a stream: ten for what is known of it, and its places, by what its header says of its records. Each of these has four bytes at least, and a
+// stream that is longer than the limit is refused, so a header that says more makes no buffer longer.
 fn numbers(stream: &[u8]) -> usize {
     header_indexes(stream).len().min(stream.len().min(STREAM_LIMIT) / 4).div_ceil(STRIDE as usize) + 10
 }
