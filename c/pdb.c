@@ -11,7 +11,7 @@
 
 #define ID_FLAGS (YOKBERD_NO_MEMBER_FUNCTION_STATIC | YOKBERD_SPACE_AFTER_COMMA | YOKBERD_SPACE_BEFORE_POINTER | YOKBERD_NAME_ONLY)
 
-/* The room is small, so that a batch goes on in several calls. */
+/* Both are small, so that the ids are done in many calls. */
 enum { ROOM = 200, BATCH = 16, HEADER = 56, STATUS_DIFFERS = 1, STATUS_UNREAD = 2 };
 
 struct bytes {
@@ -82,24 +82,32 @@ static struct checked check(struct bytes types, struct bytes ids) {
     return checked;
 }
 
-static void print_answer(uint32_t index, const uint64_t *answer, const uint8_t *out) {
-    if (answer[0] == YOKBERD_ACCEPTED)
-        printf("0x%x %.*s\n", (unsigned)index, (int)answer[3], (const char *)out + answer[2]);
-    else
-        printf("0x%x refused: %s, detail 0x%x\n", (unsigned)index, yokberd_refusal_text((uint32_t)answer[0]), (unsigned)answer[1]);
+static void print_answers(const uint32_t *indexes, size_t count, const uint64_t *answers, const uint8_t *out) {
+    for (size_t i = 0; i < count; i++) {
+        const uint64_t *answer = answers + YOKBERD_ANSWER * i;
+        if (answer[0] == YOKBERD_ACCEPTED)
+            printf("0x%x %.*s\n", (unsigned)indexes[i], (int)answer[3], (const char *)out + answer[2]);
+        else
+            printf("0x%x refused: %s, detail 0x%x\n", (unsigned)indexes[i], yokberd_refusal_text((uint32_t)answer[0]), (unsigned)answer[1]);
+    }
 }
 
-/* The texts lie one behind another, with zeros behind them. */
-static int laid(const uint64_t *answers, size_t done, const uint8_t *out) {
-    uint64_t at = 0;
-    for (size_t i = 0; i < done; i++) {
-        if (answers[4 * i] == YOKBERD_ACCEPTED && answers[4 * i + 2] != at)
+static int zeros(const uint8_t *out, size_t from) {
+    while (from < ROOM && out[from] == 0)
+        from++;
+    return from == ROOM;
+}
+
+/* Whether the texts lie one behind another, with zeros behind them. */
+static int laid(const uint64_t *answers, size_t count, const uint8_t *out) {
+    size_t at = 0;
+    for (size_t i = 0; i < count; i++) {
+        const uint64_t *answer = answers + YOKBERD_ANSWER * i;
+        if (answer[0] == YOKBERD_ACCEPTED && answer[2] != at)
             return 0;
-        at += answers[4 * i + 3];
+        at += (size_t)answer[3];
     }
-    while (at < ROOM && out[at] == 0)
-        at++;
-    return at == ROOM;
+    return zeros(out, at);
 }
 
 /* A batch of indexes, in as many calls as the room asks for: whether all was as it should be. */
@@ -113,37 +121,40 @@ static int print_batch(struct bytes types, struct bytes ids, struct checked chec
                                                  count - done, answers, YOKBERD_ANSWER * BATCH);
         if (more == 0 || more > count - done || !laid(answers, more, out))
             return 0;
-        for (size_t i = 0; i < more; i++)
-            print_answer(indexes[done + i], answers + YOKBERD_ANSWER * i, out);
+        print_answers(indexes + done, more, answers, out);
         done += more;
     }
     return 1;
 }
 
+/* Every index of the id stream: bytes 8 and 12 of its header have the first one and the one behind the last. */
 static int print_ids(struct bytes types, struct bytes ids) {
+    if (ids.len < HEADER)
+        return 0;
     struct checked checked = check(types, ids);
-    uint32_t indexes[BATCH];
-    int good = ids.len >= HEADER;
-    /* bytes 8 and 12 of the header have the first index and the one behind the last */
-    uint32_t at = good ? word(ids.at + 8) : 0, end = good ? word(ids.at + 12) : 0;
-    while (good && at < end) {
-        size_t count = end - at < BATCH ? end - at : BATCH;
-        for (size_t i = 0; i < count; i++)
-            indexes[i] = at++;
-        good = print_batch(types, ids, checked, indexes, count);
-    }
+    uint32_t first = word(ids.at + 8), count = word(ids.at + 12) - first;
+    uint32_t *indexes = room_for(count * sizeof *indexes);
+    for (uint32_t i = 0; i < count; i++)
+        indexes[i] = first + i;
+    int good = print_batch(types, ids, checked, indexes, count);
+    free(indexes);
     free(checked.at);
     return good;
 }
 
-/* The texts of the numbers: each has its own. */
-static int texts(const char *(*text)(uint32_t), uint32_t count) {
-    const char *other = text(count);
-    for (uint32_t i = 0; i < count; i++)
-        for (uint32_t j = 0; j < i; j++)
-            if (strcmp(text(i), text(j)) == 0 || strcmp(text(i), other) == 0)
-                return 0;
-    return strcmp(other, text(UINT32_MAX)) == 0;
+/* Whether a number's text is that of no number before it, and not that of none. */
+static int is_own(const char *(*text)(uint32_t), uint32_t number) {
+    uint32_t other = 0;
+    while (other < number && strcmp(text(other), text(number)) != 0)
+        other++;
+    return other == number && strcmp(text(number), text(UINT32_MAX)) != 0;
+}
+
+static int texts(const char *(*text)(uint32_t), uint32_t last) {
+    int good = strcmp(text(last + 1), text(UINT32_MAX)) == 0;
+    for (uint32_t number = 0; number <= last; number++)
+        good = good && is_own(text, number);
+    return good;
 }
 
 int main(int argc, char **argv) {
@@ -152,8 +163,8 @@ int main(int argc, char **argv) {
         return STATUS_UNREAD;
     }
     struct bytes file = read_file(argv[1]), types = read_stream(file, YOKBERD_TYPES_STREAM), ids = read_stream(file, YOKBERD_IDS_STREAM);
-    int good = print_ids(types, ids) && texts(yokberd_refusal_text, YOKBERD_UNKNOWN_COMMAND + 1) &&
-               texts(yokberd_container_text, YOKBERD_CONTAINER_NO_ROOM + 1) && YOKBERD_DEFAULT_FLAGS == 0x17;
+    int good = print_ids(types, ids) && texts(yokberd_refusal_text, YOKBERD_UNKNOWN_COMMAND) &&
+               texts(yokberd_container_text, YOKBERD_CONTAINER_NO_ROOM) && YOKBERD_DEFAULT_FLAGS == 0x17;
     free(file.at);
     free(types.at);
     free(ids.at);

@@ -71,6 +71,11 @@ static void ask(struct bytes file, uint32_t stream, size_t room, size_t lent) {
     free(out);
 }
 
+static void put(uint8_t *at, uint32_t value) {
+    for (int i = 0; i < FIELD; i++)
+        at[i] = (uint8_t)(value >> 8 * i);
+}
+
 int main(int argc, char **argv) {
     if (argc != 2) {
         fprintf(stderr, "usage: streams FILE <LIST\n");
@@ -87,9 +92,9 @@ int main(int argc, char **argv) {
             fprintf(stderr, "streams: a line asks for more than the file has\n");
             return 2;
         }
-        for (int i = 0; set && i < FIELD; i++) {
-            before[i] = file.at[offset + i];
-            file.at[offset + i] = (uint8_t)(value >> 8 * i);
+        if (set) {
+            memcpy(before, file.at + offset, FIELD);
+            put(file.at + offset, value);
         }
         ask(file, stream, room, lent);
         if (set)

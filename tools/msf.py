@@ -63,18 +63,20 @@ class Directory:
     def __init__(self, data):
         self.superblock = top = Superblock(data)
         listed = [top.block_map * top.block + 4 * i for i in range(top.directory_blocks)]
-        for at in listed:
-            if not top.inside(u32(data, at)):
-                raise Damaged(Case.DIRECTORY_BLOCK, at)
+        self.test_inside(((at, u32(data, at)) for at in listed), Case.DIRECTORY_BLOCK)
         self.starts = [u32(data, at) * top.block for at in listed]
         joined = b"".join(data[start:start + top.block] for start in self.starts)[:top.directory_bytes]
         self.words = [u32(joined, at) for at in range(0, len(joined), 4)]
         self.count = self.words[0]
         self.sizes = self.words[1:1 + self.count]
         self.lists = self.block_lists()
-        for at, number in enumerate(self.words[1 + self.count:], 1 + self.count):
-            if not top.inside(number):
-                raise Damaged(Case.STREAM_BLOCK, self.place(at))
+        self.test_inside(((self.place(at), self.words[at]) for at in range(1 + self.count, len(self.words))), Case.STREAM_BLOCK)
+
+    def test_inside(self, blocks, case):
+        """Blocks, each with its place: all of them lie in the file."""
+        for at, number in blocks:
+            if not self.superblock.inside(number):
+                raise Damaged(case, at)
 
     def place(self, n):
         block, rest = divmod(4 * n, self.superblock.block)
@@ -144,11 +146,9 @@ def main():
         with open(path, "wb") as f:
             f.write(make([None if name == "-" else load(name) for name in rest[1:]], int(rest[0])))
     elif mode == "streams":
-        for number, size in enumerate(Directory(load(path)).sizes):
-            print(number, "none" if size == NIL else size)
+        print("\n".join(f"{number} {'none' if size == NIL else size}" for number, size in enumerate(Directory(load(path)).sizes)))
     elif mode == "fields":
-        for at, name in fields(load(path)):
-            print(at, name)
+        print("\n".join(f"{at} {name}" for at, name in fields(load(path))))
     else:
         sys.exit(__doc__)
 

@@ -331,63 +331,84 @@ def patched(data, at, value):
     return data[:at] + value.to_bytes(4, "little") + data[at + 4:]
 
 
-def file_messages(folder, path):
-    """Files that cannot be read: the words, and what is said of the file behind its name."""
+AGAIN = "; copy or build it again"
+TOO_LONG = "has 16,777,217 bytes, and at most 16,777,216 are read; link the program with less debug information, or in parts"
+
+
+def too_long(types):
+    return types + bytes(16777217 - len(types))
+
+
+def unlike_files(folder, path):
+    """Files that are no .pdb, or none that is read: each with what is said of it."""
     data = msf.load(path)
-    streams = [msf.read(data, number) for number in range(5)]
-    laid = lambda name, *changed: put(folder, name, msf.make([changed[i] if i < len(changed) else s for i, s in enumerate(streams)], 4096))
-    types, ids = put(folder, "t.bin", streams[2]), put(folder, "i.bin", streams[4])
-    again = "; copy or build it again"
-    long_stream = streams[2] + bytes(16777217 - len(streams[2]))
-    too_long = "has 16,777,217 bytes, and at most 16,777,216 are read; link the program with less debug information, or in parts"
-    export = lambda kind, why, number: f"it is no whole {kind} stream: {why}; export it again: llvm-pdbutil export --stream={number} --out=FILE APP.pdb"
-    blocks = msf.u32(data, 40)
-    pdb = [
+    return [
         (os.path.join(folder, "none.pdb"), "there is no such file; see that the path is right"),
         (folder, "it is a directory; name a file in it"),
-        (put(folder, "empty.pdb", b""), "it is empty" + again),
+        (put(folder, "empty.pdb", b""), "it is empty" + AGAIN),
         (put(folder, "text.pdb", b"// no pdb\n"), "it is no .pdb file (its first bytes are not those of one); name the file that the linker wrote"),
         (os.path.join(folder, "reel.exe"), "it is a program and no .pdb file; name the .pdb that was written beside it"),
         (put(folder, "old.pdb", b"Microsoft C/C++ program database 2.00\r\n\x1aJG\0\0" + bytes(2000)),
          "it is a .pdb file of the old form 2.00, which is not read; link the program with a newer linker"),
         (put(folder, "net.pdb", b"BSJB" + bytes(100)), "it is a portable .pdb file of .NET, which has no C++ types; name the .pdb of a native program"),
-        (ids, "it is an exported stream and no .pdb file; give it by --types or --ids"),
-        (put(folder, "start.pdb", data[:40]), "it is cut: it has 40 bytes, and the header of a .pdb file has 56" + again),
-        (put(folder, "magic.pdb", data[:30]), "it is cut: it has 30 bytes, and the header of a .pdb file has 56" + again),
-        (put(folder, "half.pdb", data[:30000]), f"it is cut: its header names {blocks} blocks of 4096 bytes, and it has 30,000 bytes" + again),
-        (put(folder, "size.pdb", patched(data, 32, 5000)), "it is damaged: the block size, at byte 32, is none that a .pdb file has" + again),
+        (put(folder, "i.bin", msf.read(data, 4)), "it is an exported stream and no .pdb file; give it by --types or --ids"),
+        (put(folder, "start.pdb", data[:40]), "it is cut: it has 40 bytes, and the header of a .pdb file has 56" + AGAIN),
+        (put(folder, "magic.pdb", data[:30]), "it is cut: it has 30 bytes, and the header of a .pdb file has 56" + AGAIN),
+    ]
+
+
+def damaged_files(folder, path):
+    """Files that are damaged or lack something: each with what is said of it."""
+    data = msf.load(path)
+    blocks, streams = msf.u32(data, 40), [msf.read(data, number) for number in range(5)]
+    laid = lambda name, *changed: put(folder, name, msf.make([*changed, *streams[len(changed):]], 4096))
+    return [
+        (put(folder, "half.pdb", data[:30000]), f"it is cut: its header names {blocks} blocks of 4096 bytes, and it has 30,000 bytes" + AGAIN),
+        (put(folder, "size.pdb", patched(data, 32, 5000)), "it is damaged: the block size, at byte 32, is none that a .pdb file has" + AGAIN),
         (put(folder, "map.pdb", patched(data, 52, blocks)),
-         "it is damaged: the block that lists the directory's blocks, at byte 52, is outside the file" + again),
-        (laid("no-types.pdb", streams[0], streams[1], None), "it has no type stream; build it with debug information (clang -g -gcodeview, or cl /Zi)"),
+         "it is damaged: the block that lists the directory's blocks, at byte 52, is outside the file" + AGAIN),
+        (laid("no-types.pdb", *streams[:2], None), "it has no type stream; build it with debug information (clang -g -gcodeview, or cl /Zi)"),
         (put(folder, "no-ids.pdb", msf.make(streams[:4], 512)),
          "it has no id stream, as files of old linkers have none; ask for types, sizes or functions, or link it with a newer linker"),
-        (laid("long.pdb", streams[0], streams[1], long_stream), "its type stream " + too_long),
-        (laid("header.pdb", streams[0], streams[1], patched(streams[2], 4, 57)), "it is damaged: the header of the type stream is broken" + again),
+        (laid("long.pdb", *streams[:2], too_long(streams[2])), "its type stream " + TOO_LONG),
+        (laid("header.pdb", *streams[:2], patched(streams[2], 4, 57)), "it is damaged: the header of the type stream is broken" + AGAIN),
         (laid("tiling.pdb", *streams[:4], patched(streams[4], 16, msf.u32(streams[4], 16) - 4)),
-         "it is damaged: the records of the id stream do not fill the bytes that its header names" + again),
+         "it is damaged: the records of the id stream do not fill the bytes that its header names" + AGAIN),
     ]
-    exported = [
-        (types, ("--types", ids, "--ids", types), ids, f"the streams are exchanged: it holds ids; give --types {types} --ids {ids}"),
-        (types, ("--types", types, "--ids", types), types, "it is a type stream; give the id stream, stream 4 of the .pdb, by --ids"),
-        (types, ("--types", ids, "--ids", ids), ids, "it is an id stream; give the type stream, stream 2 of the .pdb, by --types"),
-        (types, ("--types", path, "--ids", ids), path, "it is a .pdb file and no exported stream; name it without --types and --ids"),
+
+
+def wrong_streams(folder, path):
+    """Exported streams that are not what they are given as: types and ids, the one that something is said of, and what is said."""
+    data = msf.load(path)
+    types, ids = put(folder, "t.bin", msf.read(data, 2)), put(folder, "i.bin", msf.read(data, 4))
+    cut, long = put(folder, "cut.bin", msf.load(types)[:800]), put(folder, "long.bin", too_long(msf.load(types)))
+    export = "export it again: llvm-pdbutil export --stream={} --out=FILE APP.pdb"
+    return [
+        (ids, types, ids, f"the streams are exchanged: it holds ids; give --types {types} --ids {ids}"),
+        (types, types, types, "it is a type stream; give the id stream, stream 4 of the .pdb, by --ids"),
+        (ids, ids, ids, "it is an id stream; give the type stream, stream 2 of the .pdb, by --types"),
+        (path, ids, path, "it is a .pdb file and no exported stream; name it without --types and --ids"),
+        (cut, ids, cut, "it is no whole type stream: the header of the type stream is broken; " + export.format(2)),
+        (types, os.devnull, os.devnull, "it is no whole id stream: the header of the id stream is broken; " + export.format(4)),
+        (long, ids, long, "the type stream " + TOO_LONG),
     ]
-    cut = put(folder, "cut.bin", streams[2][:800])
-    exported += [
-        (types, ("--types", cut, "--ids", ids), cut, export("type", "the header of the type stream is broken", 2)),
-        (types, ("--types", types, "--ids", os.devnull), os.devnull, export("id", "the header of the id stream is broken", 4)),
-        (types, ("--types", put(folder, "long.bin", long_stream), "--ids", ids), os.path.join(folder, "long.bin"), "the type stream " + too_long),
-    ]
-    cases = [(("ids", file), file, said) for file, said in pdb] + [(("ids", *words), file, said) for _, words, file, said in exported]
-    return cases + [(("types", "--types", ids), ids, "it is an id stream; give the type stream, stream 2 of the .pdb, by --types")]
+
+
+def file_messages(folder, path):
+    """Files that cannot be read: the words, no standard input, the status, and what is said."""
+    cases = [(("ids", file), file, said) for file, said in unlike_files(folder, path) + damaged_files(folder, path)]
+    cases += [(("ids", "--types", types, "--ids", ids), file, said) for types, ids, file, said in wrong_streams(folder, path)]
+    ids = os.path.join(folder, "i.bin")
+    cases += [(("types", "--types", ids), ids, "it is an id stream; give the type stream, stream 2 of the .pdb, by --types")]
+    return [(words, b"", 1, f"{file}: {said}") for words, file, said in cases]
 
 
 def use_messages(path):
-    """Wrong uses: the words, standard input, and what is said."""
+    """Wrong uses: the words, standard input, the status, and what is said."""
     flags = "NO_FUNCTION_RETURN, NO_MEMBER_FUNCTION_STATIC, SPACE_AFTER_COMMA, SPACE_BEFORE_POINTER, NAME_ONLY, NO_ARGUMENTS, or none"
     no_index = "no index; write it decimal or hexadecimal, as in 4097 or 0x1001"
     a_line = "no index; write one a line, decimal or hexadecimal, as 4097 or 0x1001"
-    return [
+    cases = [
         (("ids", path, "--pointer-size", "3"), b"", "--pointer-size 3: a pointer has 4, 8 or 16 bytes; give the size of the program's machine"),
         (("ids", path, "--flags", "NAMES"), b"", f"--flags NAMES: there is no flag `NAMES`; there are {flags}"),
         (("ids", path, "--names"), b"", "there is no option --names; yokberd --help lists them"),
@@ -410,21 +431,19 @@ def use_messages(path):
         (("functions", path, "--index=0x1001=loom::advance_all", "--sheet", os.devnull), b"",
          "`loom::advance_all`: a sheet holds names of at most 16 bytes; leave --sheet out"),
     ]
+    return [(words, given, 2, said) for words, given, said in cases]
 
 
 def messages(yokberd, folder, path):
     """One line on standard error, nothing on standard output, and the status: 1 for files, 2 for wrong uses."""
-    files, uses = file_messages(folder, path), use_messages(path)
-    for words, file, said in files:
-        done = run(yokberd, *words)
-        same((done.returncode, done.stdout, done.stderr.decode()), (1, b"", f"yokberd: {file}: {said}\n"), f"{words}")
-    for words, given, said in uses:
+    cases = file_messages(folder, path) + use_messages(path)
+    for words, given, status, said in cases:
         done = run(yokberd, *words, given=given)
-        same((done.returncode, done.stdout, done.stderr.decode()), (2, b"", f"yokberd: {said}\n"), f"{words}")
+        same((done.returncode, done.stdout, done.stderr.decode()), (status, b"", f"yokberd: {said}\n"), f"{words}")
     with open("/dev/full", "wb") as full:
         done = subprocess.run([yokberd, "ids", path], stdout=full, stderr=subprocess.PIPE, check=False)
     same((done.returncode, done.stderr.count(b"\n"), done.stderr[:27]), (1, 1, b"yokberd: standard output: i"), "a full disk")
-    return len(files) + len(uses) + 1
+    return len(cases) + 1
 
 
 def partial(yokberd, folder):

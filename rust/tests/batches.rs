@@ -88,10 +88,8 @@ fn in_parts(plain: &Plain, what: Batch, indexes: &[u32], room: usize, slots: usi
         let (mut out, mut answers) = (vec![0xaa; room], vec![0xaaaa; 4 * slots]);
         let done = ask(rest, &mut out, &mut answers);
         assert!(0 < done && done <= slots.min(rest.len()), "{done} done");
-        let mut at = 0;
-        for (index, answer) in rest[..done].iter().zip(answers.chunks_exact(4)) {
-            at += as_single(plain, what, *index, &out, at, answer);
-        }
+        let indexed = rest[..done].iter().zip(answers.chunks_exact(4));
+        let at = indexed.fold(0, |at, (index, answer)| at + as_single(plain, what, *index, &out, at, answer));
         assert!(out[at..].iter().all(|byte| *byte == 0), "bytes behind the texts");
         assert!(answers[4 * done..].iter().all(|number| *number == 0xaaaa), "numbers behind the answers");
         if done < slots.min(rest.len()) {
