@@ -110,20 +110,22 @@ def whole_streams(driver, folder, path, data):
 def wrong_values(name, value, top):
     """Values for a field that stand for what can go wrong there."""
     beside = {(value + step) % 2**32 for step in (-4, -1, 1, 4, top.block)}
-    return (beside | {0, 1, 2, 3, top.blocks - 1, top.blocks, 2**31, 2**32 - 2, msf.NIL} | ({512, 8192, 65536} if name == "BlockSize" else set())) - {value}
+    # the longest directory has as many blocks as a block has numbers
+    longest = top.block * top.block // 4
+    own = {"BlockSize": {128, 256, 512, 8192, 65536}, "NumDirectoryBytes": {longest, longest + 4, 2 * longest}}
+    return (beside | {0, 1, 2, 3, top.blocks - 1, top.blocks, 2**31, 2**32 - 2, msf.NIL} | own.get(name, set())) - {value}
 
 
 def damaged_fields(data, step):
-    """A case for each wrong value of every field; of the blocks of streams only each `step`-th."""
+    """A case for each wrong value of every field; of the blocks of streams only each `step`-th. The field's stream is asked for, the first and the last."""
     top = msf.Superblock(data)
     cases = []
     for at, (offset, name) in enumerate(msf.fields(data)):
         if name.startswith("block of") and at % step:
             continue
-        last = re.search(r"stream (\d+)", name)
-        stream = int(last.group(1)) if last else 2
-        room = 4 * top.block
-        cases += [(stream, room, len(data), offset, value) for value in wrong_values(name, msf.u32(data, offset), top)]
+        own = re.search(r"stream (\d+)", name)
+        asked = {int(own.group(1)) if own else 2, 0, len(msf.Directory(data).sizes) - 1}
+        cases += [(stream, 4 * top.block, len(data), offset, value) for value in wrong_values(name, msf.u32(data, offset), top) for stream in asked]
     return cases
 
 
