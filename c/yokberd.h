@@ -229,9 +229,9 @@ uint32_t yokberd_checked_get_type_size(const uint8_t *types, size_t types_len, c
  *   answers         YOKBERD_ANSWER numbers for each index: the refusal or 0, its detail or 0, where the text starts in out, and its length, 0 where refused
  *
  * The texts lie one behind another from the start of out, and every byte behind them is 0. Returns how many indexes are done, from the first on; the numbers
- * of answers behind theirs are as they were. It ends early where answers is full, or where the next text does not fit behind the others: then ask again with
- * the rest. A text that does not fit into the whole of out is refused by YOKBERD_NO_ROOM, and its index is done: so each call with an index and YOKBERD_ANSWER
- * numbers does one at least. Each answer is the one that the single call with this out gives.
+ * of answers behind theirs are as they were. It ends early where answers is full, or where the room behind the others is too short for the next text: then
+ * ask again with the rest. A text that does not fit into the whole of out is refused by YOKBERD_NO_ROOM, and its index is done: so each call with an index and
+ * YOKBERD_ANSWER numbers does one at least. Each answer is the one that the single call with this out gives.
  */
 #define YOKBERD_ANSWER 4
 size_t yokberd_format_ids(const uint8_t *types, size_t types_len, const uint8_t *ids, size_t ids_len, uint8_t *out, size_t out_len, uint32_t flags,

@@ -14,14 +14,11 @@ fn main() -> Result<(), Box<dyn Error>> {
     let ids = fs::read(files.next().unwrap_or(format!("{shipped}-ids.bin")))?;
     let formatter = TypeFormatter::new_from_parts(&types, &ids, 8, TypeFormatterFlags::default());
 
-    // Bytes 8 and 12 of the header have the first index and the one behind the last.
-    let word = |at: usize| ids.get(at..at + 4).map(|bytes| u32::from_le_bytes(bytes.try_into().unwrap()));
-    let (Some(first), Some(end)) = (word(8), word(12)) else { return Err("the id stream has no header".into()) };
-    for index in first..end {
-        match formatter.format_id(0, IdIndex(index)) {
-            Ok(text) => println!("{index:#x} {text}"),
-            Err(error @ (yokberd::Error::Header(_) | yokberd::Error::Tiling(_))) => return Err(error.into()),
-            Err(error) => println!("{index:#x} refused ({}): {error}", error.number()),
+    let indexes: Vec<_> = formatter.id_indexes()?.map(IdIndex).collect();
+    for (index, text) in indexes.iter().zip(formatter.format_ids(&indexes)) {
+        match text {
+            Ok(text) => println!("{index} {text}"),
+            Err(error) => println!("{index} refused ({}): {error}", error.number()),
         }
     }
     Ok(())

@@ -179,8 +179,9 @@ impl<'a> TypeFormatter<'a> {
     /// [`format_ids`](Self::format_ids) into lent buffers; gives how many of the ids are done.
     ///
     /// The texts lie one behind another from the start of `out`, and every byte behind them is 0; the answer of each id that is done says where its text is.
-    /// It ends early where `answers` is full or where the next text does not fit behind the others: ask again with the rest. A text that is longer than the
-    /// whole of `out` is refused ([`Error::NoRoom`]), and its id is done: so a call with an id and an answer does one at least. Nothing is allocated.
+    /// It ends early where `answers` is full or where the room behind the others is too short for the next text: ask again with the rest. A text that is
+    /// longer than the whole of `out` is refused ([`Error::NoRoom`]), and its id is done: so a call with an id and an answer does one at least. Nothing is
+    /// allocated.
     pub fn format_ids_into(&self, out: &mut [u8], answers: &mut [BatchAnswer], indexes: &[IdIndex]) -> usize {
         boundary::format_ids(self.types, self.ids, &self.checked, out, self.flags.bits(), self.ptr_size.into(), indexes, answers)
     }

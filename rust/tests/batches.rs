@@ -93,8 +93,8 @@ fn in_parts(plain: &Plain, what: Batch, indexes: &[u32], room: usize, slots: usi
         assert!(out[at..].iter().all(|byte| *byte == 0), "bytes behind the texts");
         assert!(answers[4 * done..].iter().all(|number| *number == 0xaaaa), "numbers behind the answers");
         if done < slots.min(rest.len()) {
-            let len = plain.ask(call(what, rest[done]), &mut vec![0; room]).expect("the next one has a text");
-            assert!(len as usize > room - at, "{done} done, and the next text would fit");
+            let next = plain.ask(call(what, rest[done]), &mut vec![0; room - at]);
+            assert!(at > 0 && next == Err(Error::NoRoom), "{done} done, and the next one has room behind the others");
         }
         rest = &rest[done..];
     }
