@@ -1,7 +1,8 @@
-/* C++ signatures such as `advance(float)` from CodeView type and id indexes.
+/* C++ signatures such as `advance(float)` from CodeView type and id indexes, and the streams of .pdb files that they are made of.
  *
- * `rt staticlib yokberd` builds the library, target/staticlib/libyokberd.a, for Linux on x86-64. Every function in it is proved to meet its contract
- * (crates/yokberd/src/lib.rt): no bytes and no numbers make a call loop, read or write outside what it was lent, or answer by what was asked before.
+ * `tools/staticlib.sh` builds the library, target/staticlib/libyokberd.a, for Linux on x86-64, and beside it yokberd.pc, by which pkg-config finds both. Every
+ * function in it is proved to meet its contract (crates/yokberd/src/lib.rt): no bytes and no numbers make a call loop, read or write outside what it was
+ * lent, or answer by what was asked before.
  *
  * What a call asks of its caller is what C cannot state in a type:
  *

@@ -1,4 +1,4 @@
-//! Says where the proved library is: in `YOKBERD_LIB_DIR`, or where `rt staticlib yokberd` puts it.
+//! Says where the proved library is: in `YOKBERD_LIB_DIR`, or where `tools/staticlib.sh` puts it.
 use std::env;
 use std::path::PathBuf;
 
@@ -12,7 +12,7 @@ fn main() {
     println!("cargo:rerun-if-changed={}", archive.display());
     if !archive.is_file() {
         // no error: `cargo doc` and `cargo check` need no library
-        println!("cargo:warning=libyokberd.a is not there, so nothing can be linked: run `rt staticlib yokberd` in the folder above rust/, or set YOKBERD_LIB_DIR");
+        println!("cargo:warning=libyokberd.a is not there, so nothing can be linked: run `tools/staticlib.sh` in the folder above rust/, or set YOKBERD_LIB_DIR");
     }
     println!("cargo:rustc-link-search=native={}", folder.canonicalize().unwrap_or(folder).display());
     println!("cargo:rustc-link-lib=static=yokberd");

@@ -49,7 +49,7 @@ impl BatchAnswer {
 const NUMBERS: usize = 4;
 
 mod library {
-    // `rt staticlib yokberd` builds it; c/yokberd.h documents it.
+    // `tools/staticlib.sh` builds it; c/yokberd.h documents it.
     extern "C" {
         pub fn yokberd_read_stream(file: *const u8, file_len: usize, stream: u32, out: *mut u8, out_len: usize, at: *mut usize, len: *mut usize) -> u32;
         pub fn yokberd_check_streams(

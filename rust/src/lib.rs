@@ -3,7 +3,10 @@
 //! A safe API, close to that of the crate pdb-addr2line, over a library in which every function is proved to meet its contract: no stream, index or name
 //! makes it loop, read outside a buffer or answer by what was asked before.
 //!
-//! `rt staticlib yokberd` in the folder above builds the library, once; then `cargo build` links it. It is for Linux on x86-64.
+//! `tools/staticlib.sh` in the folder above builds the library, once; then `cargo build` links it. It is for Linux on x86-64.
+//!
+//! From the bytes of a .pdb file, [`Pdb::read`] takes both streams out, and [`Pdb::formatter`] names what is in them; [`TypeFormatter::format_ids`] answers
+//! many ids at once. The program `yokberd` of this crate does so on the command line. Over streams that are at hand:
 //!
 //! ```
 //! use yokberd::{IdIndex, TypeFormatter, TypeFormatterFlags};
