@@ -8,6 +8,7 @@
 
 What is expected comes from llvm-pdbutil, from tools/msf.py, a reading of LLVM's page on the container, from tools/reading.py, a reading of document 01, and
 for the messages from the words in this file."""
+import collections
 import itertools
 import json
 import os
@@ -17,6 +18,7 @@ import subprocess
 import sys
 import time
 import zlib
+from random import Random
 
 import msf
 import reading
@@ -448,6 +450,27 @@ def messages(yokberd, folder, path):
     return len(cases) + 1
 
 
+def spoiled(random, data):
+    damaged = bytearray(data)
+    for at in random.choices(range(len(data)), k=random.choice((1, 20, 400))):
+        damaged[at] = random.choice((0, 1, 0x10, 0x80, 0xFF, random.randrange(256)))
+    return bytes(damaged)
+
+
+def any_damage(yokberd, folder, path, rounds):
+    """Bytes changed anywhere: answers and status 0, or one line and status 1."""
+    random, data, statuses = Random(0x7d), msf.load(path), collections.Counter()
+    for _ in range(rounds):
+        file = put(folder, "any.pdb", spoiled(random, data))
+        words = random.choice((("ids", file, "--all"), ("types", file), ("sizes", file), ("functions", file, "--index=0x1005=f")))
+        done = run(yokberd, *words)
+        said = (done.returncode, done.stderr.count(b"\n"), done.stdout == b"" or done.returncode == 0, done.stderr.startswith(b"yokberd: " + file.encode()))
+        same(said in ((0, 0, True, False), (1, 1, True, True)), True, f"damage: {done.stderr} and status {done.returncode}")
+        statuses[done.returncode] += 1
+    same(sorted(statuses), [0, 1], "statuses over any damage")
+    return rounds
+
+
 def partial(yokberd, folder):
     """What a file without ids, or with broken ones, still answers."""
     for name in ("no-ids.pdb", "tiling.pdb"):
@@ -533,6 +556,7 @@ def test(folder, yokberd, *drivers):
     sheets(yokberd, folder, small[0])
     print(f"test-pdb: {calls} names, types and sizes of the command line as tools/reading.py has them, in every form")
     print(f"test-pdb: {messages(yokberd, folder, small[0])} messages, each with its status")
+    print(f"test-pdb: {any_damage(yokberd, folder, small[0], 400)} files with any damage: answers, or one message")
     partial(yokberd, folder)
     closed_pipe(yokberd, large)
     progress(yokberd, large)

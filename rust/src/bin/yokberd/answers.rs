@@ -44,9 +44,9 @@ fn texts<I: Copy + Into<u32>>(output: &mut Output, indexes: &[I], call: impl Fn(
 }
 
 fn functions(output: &mut Output, formatter: &TypeFormatter, items: &[Item]) -> Result<(), Failure> {
-    for item in items {
-        let text = formatter.format_function_bytes(&item.name, 0, TypeIndex(item.index));
-        output.part(std::iter::once((item.index, text.as_deref().map(Value::Text).map_err(|error| *error))))?;
+    for part in items.chunks(PART) {
+        let texts: Vec<_> = part.iter().map(|item| formatter.format_function_bytes(&item.name, 0, TypeIndex(item.index))).collect();
+        output.part(part.iter().zip(&texts).map(|(item, text)| (item.index, text.as_deref().map(Value::Text).map_err(|error| *error))))?;
     }
     Ok(())
 }
