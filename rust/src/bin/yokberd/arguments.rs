@@ -260,3 +260,30 @@ fn pointer_size(word: &[u8]) -> Result<u8, Failure> {
         _ => wrong(format!("--pointer-size {}: a pointer has 4, 8 or 16 bytes; give the size of the program's machine", String::from_utf8_lossy(word))),
     }
 }
+
+#[cfg(test)]
+mod tests {
+    use super::*;
+
+    #[test]
+    fn indexes() {
+        for (word, number) in
+            [("0x1001", 0x1001), ("0X1f", 0x1f), ("4097", 4097), (" 7\t", 7), ("0", 0), ("0xffffffff", u32::MAX), ("4294967295", u32::MAX)]
+        {
+            assert_eq!(index(word.as_bytes()), Some(number), "{word}");
+        }
+        for word in ["", "0x", "x", "+1", "0x+1", "-1", "1 2", "0x100000000", "4294967296", "1001h", "\u{661}"] {
+            assert_eq!(index(word.as_bytes()), None, "{word}");
+        }
+        assert_eq!(index(b"\xff"), None);
+    }
+
+    #[test]
+    fn functions() {
+        let parted = |word: &str| function(word.as_bytes(), |byte| *byte == b'=').map(|item| (item.index, String::from_utf8(item.name).unwrap()));
+        assert_eq!(parted("0x1001=operator=="), Some((0x1001, "operator==".to_string())), "the first sign parts");
+        assert_eq!(parted("7= f<a, b> "), Some((7, "f<a, b>".to_string())));
+        assert_eq!(parted("0="), Some((0, String::new())));
+        assert_eq!((parted("step"), parted("=step"), parted("x=step")), (None, None, None));
+    }
+}
