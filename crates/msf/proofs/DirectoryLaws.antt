@@ -3,7 +3,7 @@ use Prim.Native.Nat.{ℕ, zero, suc, _+_, _*_, _-_, _/_, _≤_, _<_}
 use native.Mathlib.Nat.{le-refl, le-trans, eq-or-lt-of-le, mul-le-mul-right, suc-mul}
 use native.Mathlib.Numerals.{add-one}
 use native.Mathlib.Omega.{arith}
-use mathlib.Core.Path.{_≡_, subst}
+use mathlib.Core.Path.{_≡_, ap, subst, _∙_}
 use mathlib.Core.Bool.{true, false}
 use mathlib.Core.List.{List}
 use mathlib.Core.Logic.{⊎-elim}
@@ -122,14 +122,15 @@ module _ (file : List ℕ) (s : Superblock) (number room : ℕ) where
     absent h = rw (lt-ltb number (numberAt file s 0) there, eq-eqb (numberAt file s (1 + number)) 0xFFFF_FFFF h)
 
     module _ (real : numberAt file s (1 + number) ≡ 0xFFFF_FFFF → ⊥) where
-      pub too-long : room < numberAt file s (1 + number) → Damaged (NoRoom (numberAt file s (1 + number))) ≡ streamChecked file s number room
+      pub too-long : (n : ℕ) → n ≡ numberAt file s (1 + number) → room < numberAt file s (1 + number) → Damaged (NoRoom n) ≡ streamChecked file s number room
       unfolding streamChecked streams sizeOf
-      too-long h =
-          rw (
+      too-long n e h =
+          ap (λ (m : ℕ). Damaged (NoRoom m)) e
+          ∙ (rw (
             lt-ltb number (numberAt file s 0) there,
             ne-eqb (numberAt file s (1 + number)) 0xFFFF_FFFF real,
             lt-leb (numberAt file s (1 + number)) room h,
-          )
+          ))
 
       pub takes : numberAt file s (1 + number) ≤ room → Good ≡ streamChecked file s number room
       unfolding streamChecked streams sizeOf

@@ -9,7 +9,7 @@ use mathlib.Core.List.{List, _++_}
 use lib.ListN.{length, getD, take, drop, set}
 use lib.Seq.{drop-cons, drop-drop, take-all, take-suc, take-suc-set}
 use lib.Dec.{leb, ltb, eqb}
-use borrow.Author.Tests.{eqb-true, leb-true, eq-eqb, ne-eqb, not-true, not-false}
+use borrow.Author.Tests.{eqb-true, leb-true, eq-eqb, ne-eqb, lt-leb, le-leb, not-true, not-false}
 use Rattle.msf.specs.Damage.{test, _⨾_}
 use Rattle.msf.specs.Superblock.{sameFrom, isBlockSize, isFreeMap, isDirectorySize, blocksFor, inside, numbersChecked, superblockChecked, fileMagic, Sound}
 use Rattle.msf.specs.declared.damage.Checked.{Checked}
@@ -112,6 +112,20 @@ sound file s e =
       within = leb-true (s .blocks * s .size) (length file) (held (leb (s .blocks * s .size) (length file)) (Cut 40) (cut .0));
       whole = even (s .directory) (both whole some (directory .0) .0);
     }
+
+-- The tests of a superblock, one after another.
+module _ (file : List ℕ) (s : Superblock) where
+  pub short : length file < 56 → Damaged (Short (length file)) ≡ superblockChecked file s
+  unfolding superblockChecked
+  short h = rw (lt-leb 56 (length file) h)
+
+  pub unlike : (d : Damage) → 56 ≤ length file → sameFrom fileMagic file 0 ≡ Damaged d → Damaged d ≡ superblockChecked file s
+  unfolding superblockChecked
+  unlike d h e = rw (le-leb 56 (length file) h, e)
+
+  pub alike : (r : Checked) → 56 ≤ length file → sameFrom fileMagic file 0 ≡ Good → r ≡ numbersChecked file s → r ≡ superblockChecked file s
+  unfolding superblockChecked
+  alike r h e k = rw (le-leb 56 (length file) h, e) k
 
 -- A turn of the loop that copies, and its end.
 pub copy-turn : (d s : List ℕ) (i : ℕ) → length d ≡ length s → i < length s → take i d ≡ take i s → take (i + 1) (set d i (getD s i 0)) ≡ take (i + 1) s

@@ -1,6 +1,7 @@
 -- Each return is that of the first test that fails.
 -- Assumes nothing.
 use Rattle.msf.proofs.DirectoryLaws.{beyond, absent, too-long, takes}
+use mathlib.Core.Path.{_∙_}
 use native.Mathlib.Omega.{arith}
 use borrow.Author.Needs.{needs}
 use Rattle.msf.proofs.directory.check_stream.Statement.{statement}
@@ -43,7 +44,7 @@ wide-requires-4 : tie.Need-wide-requires-4
 wide-requires-4 c κs = search needs
 
 returns-3 : tie.Need-returns-3
-returns-3 c = rw (c .wide4 .ensures .0, c .before .before .before .before .number-at2 .ensures, c .before .before .before .before .before .wide .ensures .0) (too-long (c .before .before .before .before .before .before .before .before .before .args .file .now) (c .before .before .before .before .before .before .before .before .before .args .s) (c .before .before .before .before .before .before .before .before .before .args .number) (c .before .before .before .before .before .before .before .before .before .args .room) (rw (c .before .before .before .before .before .before .before .number-at .ensures) at (c .before .before .before .before .before .before .if1 .left)) (rw (c .before .before .before .before .number-at2 .ensures, c .before .before .before .before .before .wide .ensures .0) at (c .before .before .before .if2 .left)) (rw (c .before .before .wide3 .ensures .0, c .before .before .before .before .number-at2 .ensures, c .before .before .before .before .before .wide .ensures .0) at (c .before .if3 .taken)))
+returns-3 c = too-long (c .before .before .before .before .before .before .before .before .before .args .file .now) (c .before .before .before .before .before .before .before .before .before .args .s) (c .before .before .before .before .before .before .before .before .before .args .number) (c .before .before .before .before .before .before .before .before .before .args .room) (rw (c .before .before .before .before .before .before .before .number-at .ensures) at (c .before .before .before .before .before .before .if1 .left)) (rw (c .before .before .before .before .number-at2 .ensures, c .before .before .before .before .before .wide .ensures .0) at (c .before .before .before .if2 .left)) (c .wide4 .result) (c .wide4 .ensures .0 ∙ (rw (c .before .before .before .before .before .wide .ensures .0) at (c .before .before .before .before .number-at2 .ensures))) (rw (c .before .before .wide3 .ensures .0, c .before .before .before .before .number-at2 .ensures, c .before .before .before .before .before .wide .ensures .0) at (c .before .if3 .taken))
 
 returns-4 : tie.Need-returns-4
 returns-4 c = takes (c .before .before .before .before .before .before .before .before .args .file .now) (c .before .before .before .before .before .before .before .before .args .s) (c .before .before .before .before .before .before .before .before .args .number) (c .before .before .before .before .before .before .before .before .args .room) (rw (c .before .before .before .before .before .before .number-at .ensures) at (c .before .before .before .before .before .if1 .left)) (rw (c .before .before .before .number-at2 .ensures, c .before .before .before .before .wide .ensures .0) at (c .before .before .if2 .left)) (rw (c .before .wide3 .ensures .0, c .before .before .before .number-at2 .ensures, c .before .before .before .before .wide .ensures .0) at (c .if3 .left))
