@@ -12,9 +12,10 @@ use borrow.Author.Tests.{leb-true, ltb-true, not-true}
 use Rattle.msf.proofs.Laws.{both-good, held, sound}
 use Rattle.msf.proofs.DirectoryLaws.{listed-more, listed-grows, each-inside, block-within, filled-tells}
 use Rattle.msf.specs.Damage.{test, _⨾_}
-use Rattle.msf.specs.Superblock.{blocksFor, inside, superblockOf, superblockChecked, Sound}
-use Rattle.msf.specs.Directory.{place, numberAt, streams, sizeOf, blocksOf, listed, mapChecked, filled, listsChecked, streamChecked, streamsChecked, directoryChecked, Listed}
+use Rattle.msf.specs.Superblock.{blocksFor, inside, superblockOf, superblockChecked}
+use Rattle.msf.specs.Directory.{place, numberAt, streams, sizeOf, blocksOf, listed, mapChecked, filled, listsChecked, streamChecked, streamsChecked, directoryChecked}
 use Rattle.msf.specs.Contents.{bytesFrom, streamBytes, checked, streamOf, inFront, given, laid}
+use Rattle.msf.specs.Inner.{Sound, Listed}
 use Rattle.msf.specs.declared.StreamRead.the-variants.{Bytes, Refused}
 use Rattle.msf.specs.declared.damage.Checked.{Checked}
 use Rattle.msf.specs.declared.damage.Checked.the-variants.{Good, Damaged}

@@ -12,8 +12,9 @@ use lib.Dec.{eqb, ltb}
 use borrow.Author.Tests.{eqb-true, ltb-true, eq-eqb, ne-eqb, lt-ltb, le-ltb, lt-leb, le-leb}
 use Rattle.msf.proofs.Laws.{both-good, held, both}
 use Rattle.msf.specs.Damage.{test}
-use Rattle.msf.specs.Superblock.{word, blocksFor, inside, Sound}
+use Rattle.msf.specs.Superblock.{word, blocksFor, inside}
 use Rattle.msf.specs.Directory.{place, numberAt, streams, sizeOf, blocksOf, listed, allInside, filled, listsChecked, streamChecked}
+use Rattle.msf.specs.Inner.{Sound}
 use Rattle.msf.specs.declared.damage.Checked.the-variants.{Good, Damaged}
 use Rattle.msf.specs.declared.damage.Damage.{Damage}
 use Rattle.msf.specs.declared.damage.Damage.the-variants.{Directory, StreamBlock, NoStream, NoRoom}

@@ -11,7 +11,8 @@ use lib.Seq.{drop-cons, drop-drop, take-all, take-suc, take-suc-set}
 use lib.Dec.{leb, ltb, eqb}
 use borrow.Author.Tests.{eqb-true, leb-true, eq-eqb, ne-eqb, lt-leb, le-leb, not-true, not-false}
 use Rattle.msf.specs.Damage.{test, _⨾_}
-use Rattle.msf.specs.Superblock.{sameFrom, isBlockSize, isFreeMap, isDirectorySize, blocksFor, inside, numbersChecked, superblockChecked, fileMagic, Sound}
+use Rattle.msf.specs.Superblock.{sameFrom, isBlockSize, isFreeMap, isDirectorySize, blocksFor, inside, numbersChecked, superblockChecked, fileMagic}
+use Rattle.msf.specs.Inner.{Sound}
 use Rattle.msf.specs.declared.damage.Checked.{Checked}
 use Rattle.msf.specs.declared.damage.Checked.the-variants.{Good, Damaged}
 use Rattle.msf.specs.declared.damage.Damage.{Damage}

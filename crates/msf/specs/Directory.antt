@@ -1,8 +1,7 @@
 -- The stream directory: "NumStreams; StreamSizes[NumStreams]; StreamBlocks[NumStreams][]", all numbers of four bytes.
-use Prim.Native.Nat.{ℕ, zero, suc, _+_, _*_, _/_, _%_, _≤_, _<_}
-use mathlib.Core.Bool.{true, not}
+use Prim.Native.Nat.{ℕ, zero, suc, _+_, _*_, _/_, _%_}
+use mathlib.Core.Bool.{not}
 use mathlib.Core.List.{List}
-use mathlib.Core.Path.{_≡_}
 use lib.Dec.{eqb, leb, ltb}
 use Rattle.wire.specs.Field.{pick}
 use Rattle.msf.specs.Damage.{test, _⨾_}
@@ -71,7 +70,3 @@ streamsChecked file s number room = listsChecked file s ⨾ streamChecked file s
 
 unfoldable pub directoryChecked : List ℕ → Superblock → ℕ → ℕ → Checked
 directoryChecked file s number room = mapChecked file s ⨾ filled file s ⨾ streamsChecked file s number room
-
--- So many numbers of the directory from the j-th on are those of blocks inside.
-pub record Listed (file : List ℕ) (s : Superblock) (first count : ℕ) : Type 0 where
-  pub each : (k : ℕ) → first ≤ k → k < first + count → inside s (numberAt file s k) ≡ true

@@ -1,8 +1,7 @@
 -- The superblock (LLVM, "The MSF File Format"): "At file offset 0 in an MSF file is the MSF SuperBlock".
-use Prim.Native.Nat.{ℕ, _+_, _-_, _*_, _/_, _%_, _≤_}
+use Prim.Native.Nat.{ℕ, _+_, _-_, _*_, _/_, _%_}
 use mathlib.Core.Bool.{Bool, _&&_, _||_}
 use mathlib.Core.List.{List, [], _∷_, _++_}
-use mathlib.Core.Path.{_≡_}
 use lib.Dec.{eqb, leb, ltb}
 use lib.ListN.{length, getD}
 use Rattle.wire.specs.Field.{field}
@@ -32,7 +31,8 @@ unfoldable pub superblockOf : List ℕ → Superblock
 superblockOf file =
     record { size = word file 32; free = word file 36; blocks = word file 40; directory = word file 44; map = word file 52 }
 
--- "BlockSize: The block size of the internal file system." A power of two from 512 to 32,768.
+-- "BlockSize: The block size of the internal file system. Valid values are 512, 1024, 2048, and 4096 bytes." LLVM's reader takes the three others too, which
+-- larger files have.
 unfoldable pub isBlockSize : ℕ → Bool
 isBlockSize n = eqb n 512 || eqb n 1024 || eqb n 2048 || eqb n 4096 || eqb n 8192 || eqb n 16384 || eqb n 32768
 
@@ -65,11 +65,3 @@ numbersChecked file s =
 -- The tests of the superblock.
 unfoldable pub superblockChecked : List ℕ → Superblock → Checked
 superblockChecked file s = test (leb 56 (length file)) (Short (length file)) ⨾ sameFrom fileMagic file 0 ⨾ numbersChecked file s
-
--- What these leave of the numbers, so that sums stay small and blocks lie in the file.
-pub record Sound (file : List ℕ) (s : Superblock) : Type 0 where
-  pub least : 512 ≤ s .size
-  pub most : s .size ≤ 32768
-  pub numbers : 4 * (s .size / 4) ≡ s .size
-  pub within : s .blocks * s .size ≤ length file
-  pub whole : 4 * (s .directory / 4) ≡ s .directory

@@ -1,8 +1,8 @@
 // The stream directory: its numbers, wherever its blocks lie, and their tests.
 ghost use mathlib.Core.Path.{_≡_};
 ghost use Prim.Native.Nat.{_+_, _≤_, _<_};
-ghost use Rattle.msf.specs.Superblock.{Sound};
 ghost use Rattle.msf.specs.Directory.{mapPlace, place, numberAt, blocksOf, listed, mapChecked, filled, allInside, streamChecked, streamsChecked, directoryChecked};
+ghost use Rattle.msf.specs.Inner.{Sound};
 ghost use Rattle.msf.specs.declared.damage.Checked.the-variants.{Good};
 ghost use Rattle.msf.specs.declared.damage.Damage.the-variants.{StreamBlock};
 use crate::damage::Checked;

@@ -3,14 +3,13 @@ ghost use mathlib.Core.Path.{_≡_};
 ghost use mathlib.Core.List.{_++_};
 ghost use Prim.Native.Nat.{_+_, _≤_, _<_, min};
 ghost use lib.ListN.{length, take, drop, replicate};
-ghost use Rattle.msf.specs.Superblock.{Sound};
-ghost use Rattle.msf.specs.Directory.{Listed};
-ghost use Rattle.msf.specs.declared.damage.Checked.the-variants.{Good};
 ghost use Rattle.msf.specs.Contents.{bytesFrom, streamBytes, checked, streamOf, inFront, given, laid};
+ghost use Rattle.msf.specs.Inner.{Sound, Listed};
+ghost use Rattle.msf.specs.declared.damage.Checked.the-variants.{Good};
 
 pub mod damage;
-pub mod directory;
-pub mod superblock;
+mod directory;
+mod superblock;
 
 use damage::Checked;
 use damage::Damage;
