@@ -7,13 +7,13 @@ ghost use Rattle.rules.specs.Places.{near};
 ghost use Rattle.checked_calls.specs.Answers.{ofAnswer, settled, laid};
 ghost use Rattle.batch.specs.Batch.{entry, leavesOff, batched, laidBatch, GoesOn, textsOver, batchOver, Laying};
 use checked_calls::answer::Answer;
-use checked_calls::answer::clear;
 use checked_calls::calls::id_text;
 use checked_calls::calls::type_text;
 use codeview::index::IdIndex;
 use codeview::index::TypeIndex;
 use streams::refusal::StreamKind;
-use streams::stream::shorter;
+use wire::bytes::clear;
+use wire::bytes::shorter;
 
 // How many indexes are done, and how many bytes their texts have.
 pub struct Laid {

@@ -1,27 +1,16 @@
 // What a text call answers, read off the pen that its walk leaves.
 ghost use mathlib.Core.Path.{_≡_};
-ghost use lib.ListN.{length, replicate};
 ghost use Rattle.pen.specs.Page.{readPen};
 ghost use Rattle.checked_calls.specs.Answers.{given, started, answeredBy, settled};
 use pen::Pen;
 use pen::Stop;
 use streams::refusal::Refusal;
+use wire::bytes::clear;
 
 // A text of so many bytes at the start of the buffer, or a refusal.
 pub enum Answer {
     Text(usize),
     Refused(Refusal),
-}
-
-// Zeros.
-pub fn clear(out: &mut [u8])
-    ensures { λ _. ⌜ now (out .exit) ≡ replicate (length (now (out .entry))) 0 ⌝ }
-{
-    let mut i = 0;
-    while i < out.len() {
-        out[i] = 0;
-        i += 1;
-    }
 }
 
 // The pen before the first byte.

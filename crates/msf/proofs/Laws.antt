@@ -6,8 +6,8 @@ use native.Mathlib.Omega.{arith}
 use mathlib.Core.Path.{_≡_, refl, sym, _∙_}
 use mathlib.Core.Bool.{Bool, true, false, not, _&&_, _||_}
 use mathlib.Core.List.{List, _++_}
-use lib.ListN.{length, getD, take, drop, set}
-use lib.Seq.{drop-cons, drop-drop, take-all, take-suc, take-suc-set}
+use lib.ListN.{length, getD, take, drop}
+use lib.Seq.{drop-cons, drop-drop}
 use lib.Dec.{leb, ltb, eqb}
 use borrow.Author.Tests.{eqb-true, leb-true, eq-eqb, ne-eqb, lt-leb, le-leb, not-true, not-false}
 use Rattle.msf.specs.Damage.{test, _⨾_}
@@ -127,13 +127,6 @@ module _ (file : List ℕ) (s : Superblock) where
   pub alike : (r : Checked) → 56 ≤ length file → sameFrom fileMagic file 0 ≡ Good → r ≡ numbersChecked file s → r ≡ superblockChecked file s
   unfolding superblockChecked
   alike r h e k = rw (le-leb 56 (length file) h, e) k
-
--- A turn of the loop that copies, and its end.
-pub copy-turn : (d s : List ℕ) (i : ℕ) → length d ≡ length s → i < length s → take i d ≡ take i s → take (i + 1) (set d i (getD s i 0)) ≡ take (i + 1) s
-copy-turn d s i l h e = rw (add-one, take-suc-set d i (getD s i 0) (omega arith), take-suc s i 0 h, e)
-
-pub copy-all : (d s : List ℕ) (i : ℕ) → length d ≡ length s → length s ≤ i → take i d ≡ take i s → d ≡ s
-copy-all d s i l h e = sym (take-all i d (omega arith)) ∙ e ∙ take-all i s h
 
 -- A part of the file that was copied over a part of the buffer.
 pub put-part : (out file part : List ℕ) (at start n : ℕ) → part ≡ take (start + n - start) (drop start file)

@@ -1,8 +1,8 @@
 // The container of a .pdb (LLVM, "The MSF File Format"): the bytes of one stream of a file, or what is wrong with the file.
 ghost use mathlib.Core.Path.{_≡_};
 ghost use mathlib.Core.List.{_++_};
-ghost use Prim.Native.Nat.{_+_, _≤_, _<_, min};
-ghost use lib.ListN.{length, take, drop, replicate};
+ghost use Prim.Native.Nat.{_+_, _≤_, _<_};
+ghost use lib.ListN.{length, take, drop};
 ghost use Rattle.msf.specs.Contents.{bytesFrom, streamBytes, checked, streamOf, inFront, given, laid};
 ghost use Rattle.msf.specs.Inner.{Sound, Listed};
 ghost use Rattle.msf.specs.declared.damage.Checked.the-variants.{Good};
@@ -21,40 +21,14 @@ use superblock::blocks_for;
 use superblock::check_superblock;
 use superblock::superblock_of;
 use superblock::wide;
+use wire::bytes::clear;
+use wire::bytes::copy;
+use wire::bytes::shorter;
 
 // A stream of so many bytes at the start of the buffer, or why there is none.
 pub enum StreamRead {
     Bytes(usize),
     Refused(Damage),
-}
-
-fn clear(out: &mut [u8])
-    ensures { λ _. ⌜ now (out .exit) ≡ replicate (length (now (out .entry))) 0 ⌝ }
-{
-    let mut i = 0;
-    while i < out.len() {
-        out[i] = 0;
-        i += 1;
-    }
-}
-
-fn least(a: usize, b: usize) -> usize
-    ensures { λ r. ⌜ r ≡ min a b ⌝ }
-{
-    if a < b { a } else { b }
-}
-
-// Bytes over as many others.
-fn copy(to: &mut [u8], s: &[u8])
-    requires { ⌜ length (now to) ≡ length (now s) ⌝ }
-    ensures { λ _. ⌜ now (to .exit) ≡ now (s .entry) ⌝ }
-{
-    let n = to.len();
-    let mut i = 0;
-    while i < n {
-        to[i] = s[i];
-        i += 1;
-    }
 }
 
 // `n` bytes of the file at a place of the buffer.
@@ -77,7 +51,7 @@ fn copy_blocks(out: &mut [u8], file: &[u8], s: Superblock, first: usize, count: 
     let mut at = 0;
     let mut j = first;
     while j < end {
-        let n = least(block, size - at);
+        let n = shorter(block, size - at);
         let start = wide(number_at(file, s, j)) * block;
         put(out, at, file, start, n);
         at += n;

@@ -6,7 +6,7 @@ use mathlib.Core.List.{List, [], _∷_, _++_, append-assoc}
 use mathlib.Core.Bool.{Bool, true, false}
 use lib.ListN.{length, set, take, drop, getD, length-set}
 use lib.Dec.{eqb, leb, ltb}
-use lib.Seq.{take-suc, take-suc-set, take-all, drop-drop, sets, sets-eq}
+use lib.Seq.{take-suc, take-all, drop-drop, sets, sets-eq}
 use native.Mathlib.Decide.{decLt}
 use native.Mathlib.Numerals.{add-one}
 use native.Mathlib.Nat.{add-zero, zero-add, suc-add}
@@ -499,13 +499,6 @@ ink-over (b ∷ bs) buf at l lim h k = by (decLt at lim) (λ d. ink-over bs (set
         → ink (put (under buf (record { at = at; last = l; limit = lim; stop = No })) b) bs .pen .stop ≡ Refused NoRoom
     by (yes d) rest = rw (put-fits buf (record { at = at; last = l; limit = lim; stop = No }) b refl d) (rest d)
     by (no d) rest = rw (put-full buf (record { at = at; last = l; limit = lim; stop = No }) b refl (omega arith), ink-halted bs (under buf (ended lim NoRoom)) refl)
-
--- A run of bytes that is copied at once: a turn of the copying, and what is copied when all of it is.
-pub copy-turn : (d s : List ℕ) (i : ℕ) → length d ≡ length s → i < length s → take i d ≡ take i s → take (i + 1) (set d i (getD s i 0)) ≡ take (i + 1) s
-copy-turn d s i l h e = rw (add-one, take-suc-set d i (getD s i 0) (omega arith), take-suc s i 0 h, e)
-
-pub copy-all : (d s : List ℕ) (i : ℕ) → length d ≡ length s → length s ≤ i → take i d ≡ take i s → d ≡ s
-copy-all d s i l h e = sym (take-all i d (omega arith)) ∙ e ∙ take-all i s h
 
 -- What it says that a run of n bytes has room.
 pub record Room (p : Pen) (len n : ℕ) : Type 0 where

@@ -9,6 +9,7 @@ ghost use Rattle.wire.specs.Field.{pick};
 ghost use Rattle.interpreter.specs.Trace.{tr, refused, halted, long, count};
 ghost use Rattle.pen.specs.Page.{readPen, page, readPage, put, unlessStopped, Wrote, lastSince, resumed, refusedPen, missedPen, unreadPen, writing, idle, unreadTrace};
 use streams::refusal::Refusal;
+use wire::bytes::copy;
 
 // How a pen has stopped.
 pub enum Stop {
@@ -113,19 +114,6 @@ fn text_by_byte(out: &mut [u8], p: Pen, s: &[u8]) -> Pen
         i += 1;
     }
     q
-}
-
-// Bytes over as many others.
-pub fn copy(to: &mut [u8], s: &[u8])
-    requires { ⌜ length (now to) ≡ length (now s) ⌝ }
-    ensures { λ _. ⌜ now (to .exit) ≡ now (s .entry) ⌝ }
-{
-    let n = to.len();
-    let mut i = 0;
-    while i < n {
-        to[i] = s[i];
-        i += 1;
-    }
 }
 
 // How many bytes there is room for at once: none where the pen has stopped or its limit is past the buffer.

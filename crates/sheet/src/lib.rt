@@ -26,6 +26,7 @@ use codeview::index::IdIndex;
 use codeview::index::TypeIndex;
 use leaf_writers::names::name_of;
 use streams::refusal::Refusal;
+use wire::bytes::copy;
 use wire::name::Name;
 
 pub mod command;
@@ -237,7 +238,7 @@ fn put_bytes(out: &mut [u8], at: usize, bs: &[u8]) -> Put
         return Put { at, full: true };
     }
     let end = at + n;
-    pen::copy(&mut out[at..end], bs);
+    copy(&mut out[at..end], bs);
     Put {
         at: end,
         full: false,

@@ -20,6 +20,7 @@ use leaf_writers::numbers::decimal_in;
 use leaf_writers::numbers::hex;
 use pen::Pen;
 use streams::refusal::Refusal;
+use wire::bytes::copy;
 use wire::name::Name;
 
 // The fields before a text.
@@ -61,7 +62,7 @@ fn head_before(line: &mut [u8], number: u64) -> usize
     ensures { λ r. ⌜ (r ≤ 20) × (drop r (now (line .exit)) ≡ (Text.decimal number ++ bytes " 0 0x0 ") ++ drop 27 (now (line .entry))) ⌝ }
 {
     let at = decimal_in(&mut line[0..20], number);
-    pen::copy(&mut line[20..27], b" 0 0x0 ");
+    copy(&mut line[20..27], b" 0 0x0 ");
     at
 }
 

@@ -17,7 +17,7 @@ use crate::stream::Found;
 use crate::stream::Stream;
 use crate::stream::StreamCheck;
 use crate::stream::record_behind;
-use crate::stream::shorter;
+use wire::bytes::shorter;
 
 // A number of a list; 0 past its end.
 fn number_at(numbers: &[u32], k: usize) -> u32

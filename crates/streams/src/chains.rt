@@ -23,8 +23,8 @@ use crate::stream::Stream;
 use crate::stream::StreamCheck;
 use crate::stream::behind_record;
 use crate::stream::header_of;
-use crate::stream::shorter;
 use crate::stream::two;
+use wire::bytes::shorter;
 
 // How many records a chain has up to its goal, or that it does not come there or has too many.
 pub enum Chain {

@@ -8,8 +8,8 @@ use crate::chains::Chains;
 use crate::places::Spacing;
 use crate::places::wide;
 use crate::stream::Place;
-use crate::stream::shorter;
 use crate::stream::two;
+use wire::bytes::shorter;
 
 // The place behind the record at a place, where that is before a goal.
 pub fn before(s: &[u8], at: usize, goal: usize) -> Place

@@ -1,6 +1,6 @@
 // A stream: the check of its header and of its records, and the way from an index to its record. Nothing else walks a stream.
 ghost use mathlib.Core.Path.{_≡_};
-ghost use Prim.Native.Nat.{_+_, _≤_, _<_, min};
+ghost use Prim.Native.Nat.{_+_, _≤_, _<_};
 ghost use lib.ListN.{length, take};
 ghost use Rattle.wire.specs.Field.{number};
 ghost use Rattle.streams.specs.Stream.{indexes, header, behind, passed, recordAt, walkFrom};
@@ -9,6 +9,7 @@ ghost use Rattle.streams.specs.declared.stream.Place.the-variants.{At, B
 ghost use Rattle.streams.specs.declared.stream.CursorRead.the-variants as cursor;
 ghost use Rattle.streams.specs.declared.stream.Found.the-variants as found;
 use crate::refusal::Refusal;
+use wire::bytes::shorter;
 use wire::field::Field32;
 
 // What the check found in a header: the indexes from `first` up to `end`, and the place where the records stop.
@@ -198,12 +199,6 @@ pub fn record_behind(s: &[u8], from: usize, count: u32) -> Found
         left -= 1;
     }
     record_at(s, at)
-}
-
-pub fn shorter(a: usize, b: usize) -> usize
-    ensures { λ r. ⌜ r ≡ min a b ⌝ }
-{
-    if a < b { a } else { b }
 }
 
 // The part of a stream where its records are: what is there of it.

@@ -29,7 +29,7 @@ use streams::places::wide;
 use streams::refusal::StreamKind;
 use streams::stream::Head;
 use streams::stream::header_of;
-use streams::stream::shorter;
+use wire::bytes::shorter;
 
 // How many records a stream has by its header, and no more than a fourth of its bytes: a header that lies asks for no long buffer.
 fn record_count(s: &[u8]) -> u32

@@ -5,7 +5,9 @@ use native.Mathlib.Omega.{arith}
 use mathlib.Core.Path.{_≡_, refl, ap, sym, _∙_}
 use mathlib.Core.Bool.{Bool, true, false, _||_}
 use mathlib.Core.List.{List}
-use lib.ListN.{length, getD}
+use lib.ListN.{length, take, getD, set}
+use lib.Seq.{take-all, take-suc, take-suc-set}
+use native.Mathlib.Numerals.{add-one}
 use lib.Dec.{leb, ltb, eqb}
 use borrow.Author.Tests.{le-leb, lt-leb, leb-true, ltb-true, eqb-false, ne-eqb}
 use Rattle.wire.specs.Name.{zeroFrom, zeroAmong, nameEnd, name, nameAnswer}
@@ -220,3 +222,10 @@ module _ (o : ℕ → ℕ) (s : List ℕ) (at : ℕ) {r : Leaf} (e : r ≡ leaf 
 
   pub unreadLeaf : r ≡ Unread → {A : Type 0} (k : ℕ → ℕ → ℕ → A) (z : A) → leaf o s at k z ≡ z
   unreadLeaf h k z = sym (map-leaf (λ (r : Leaf). byLeaf r k z) o s at Number Unread) ∙ ap (λ (r : Leaf). byLeaf r k z) (sym e ∙ h)
+
+-- Bytes over as many others: a turn of the copying, and what is copied when all of it is.
+pub copy-turn : (d s : List ℕ) (i : ℕ) → length d ≡ length s → i < length s → take i d ≡ take i s → take (i + 1) (set d i (getD s i 0)) ≡ take (i + 1) s
+copy-turn d s i l h e = rw (add-one, take-suc-set d i (getD s i 0) (omega arith), take-suc s i 0 h, e)
+
+pub copy-all : (d s : List ℕ) (i : ℕ) → length d ≡ length s → length s ≤ i → take i d ≡ take i s → d ≡ s
+copy-all d s i l h e = sym (take-all i d (omega arith)) ∙ e ∙ take-all i s h

@@ -1,13 +1,13 @@
 -- The invariant: the first i bytes are those of s. The measure is what is left of them.
 -- Assumes nothing.
 use Prim.Native.Nat.{_≤_, _-_}
-use mathlib.Core.Path.{_≡_, refl}
+use mathlib.Core.Path.{_≡_, refl, sym, ap, _∙_}
 use lib.ListN.{length, take, length-set}
-use Rattle.msf.proofs.Laws.{copy-turn, copy-all}
+use Rattle.wire.proofs.Laws.{copy-turn, copy-all}
 use native.Mathlib.Omega.{arith}
 use borrow.Author.Needs.{needs}
-use Rattle.msf.proofs.copy.Statement.{statement}
-use Rattle.msf.proofs.copy.Tie as tie
+use Rattle.wire.proofs.bytes.copy.Statement.{statement}
+use Rattle.wire.proofs.bytes.copy.Tie as tie
 
 abbrev Inv-loop : tie.InvT-loop
 Inv-loop to₀ s local3 local4 to i = (length to ≡ length s) × (i ≤ length s) × (take i to ≡ take i s)
