@@ -563,8 +563,10 @@ def test(folder, yokberd, *drivers):
     uses = told_uses(folder, help_and_version(yokberd), "--help")
     with open(GUIDE, encoding="utf-8") as f:
         steps = told_uses(folder, f.read(), "docs/FROM-A-PDB.md")
-    same((uses >= 3, steps >= 3), (True, True), "uses that were found")
-    print(f"test-pdb: a closed pipe, progress, {uses} uses of --help and {steps} of docs/FROM-A-PDB.md")
+    with open(os.path.join(ROOT, "README.md"), encoding="utf-8") as f:
+        first = told_uses(ROOT, f.read().partition("\n## ")[0], "README.md")
+    same((uses >= 3, steps >= 3, first), (True, True, 1), "uses that were found")
+    print(f"test-pdb: a closed pipe, progress, {uses} uses of --help, {steps} of docs/FROM-A-PDB.md and the first of README.md")
 
 
 if __name__ == "__main__":

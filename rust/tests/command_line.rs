@@ -61,3 +61,21 @@ fn statuses() {
     assert_eq!(status(&["ids", &types]), (Some(1), true, 1), "a stream in place of a .pdb file");
     assert_eq!(status(&["ids", "--types", &types, "--ids", &ids, "--pointer-size", "5"]), (Some(2), true, 1), "a bad pointer size");
 }
+
+// The functions of the program in docs/FROM-A-PDB.md, as it is written there, in the order of their ids. Their texts by hand: const behind its type, no results.
+#[test]
+fn shipped_pdb() {
+    let done = yokberd(&["ids", &folder("rust/examples/reel.pdb").display().to_string()]);
+    let expected = [
+        "0x1003  reel::Player::Player(int)",
+        "0x1004  reel::Player::seek(reel::Frame const&)",
+        "0x1005  reel::Player::seek(int)",
+        "0x1006  reel::Player::at(int) const",
+        "0x1007  reel::Player::count()",
+        "0x1009  reel::each(reel::Player&, void (*)(reel::Frame const*, int))",
+        "0x100a  start()",
+        "0x100b  visit(reel::Frame const*, int)",
+    ];
+    assert_eq!(String::from_utf8(done.stdout).unwrap().lines().collect::<Vec<_>>(), expected);
+    assert_eq!((done.status.code(), done.stderr), (Some(0), Vec::new()));
+}
