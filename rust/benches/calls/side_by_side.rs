@@ -5,6 +5,7 @@
 //! | single: a plain call, which checks its streams | fresh: a new formatter for each call |
 //! | checked once: one formatter of the crate, which checked the streams when it was made | warm: one formatter, of which all of this was asked before |
 //! | a sheet's line: all calls in one sheet of that formatter | the same |
+//! | an answer of a batch: all ids, or all types, in one call of that formatter | the same |
 //!
 //! Like for like: the same with the original's `emit_` calls, which write into a string that is there; and our calls that make a `String`, of a new
 //! formatter and of one that checked.
@@ -16,7 +17,7 @@ use crate::table::{grown, head, micros, ratio, row, thousands};
 use crate::timing::{in_turns, seconds, Contender};
 use crate::type_formatter::TypeFormatter as Theirs;
 use std::hint::black_box;
-use yokberd::{Sheet, TypeFormatter, TypeFormatterFlags};
+use yokberd::{BatchAnswer, Sheet, TypeFormatter, TypeFormatterFlags};
 
 const NAME: &str = "advance";
 
@@ -88,6 +89,7 @@ pub struct Times {
     emit_warm: f64,
     made_string: f64,
     checked_string: f64,
+    batch: Option<f64>,
 }
 
 pub struct Row {
@@ -166,6 +168,37 @@ fn checked_answer(formatter: &TypeFormatter, call: Call) -> Result<String, yokbe
     Ok(String::from_utf8(out[..len].to_vec()).unwrap())
 }
 
+// The ids or the types that are asked for, for one batch. There is none of functions and sizes.
+struct Batch {
+    ids: Vec<yokberd::IdIndex>,
+    types: Vec<yokberd::TypeIndex>,
+}
+
+impl Batch {
+    fn of(calls: &[Call]) -> Option<Self> {
+        let mut batch = Batch { ids: Vec::new(), types: Vec::new() };
+        for call in calls {
+            match call {
+                Call::Id(index) => batch.ids.push((*index).into()),
+                Call::Type(index) => batch.types.push((*index).into()),
+                Call::Function(..) | Call::Size(_) => return None,
+            }
+        }
+        Some(batch)
+    }
+
+    // All of them, into buffers that take all.
+    fn ask(&self, formatter: &TypeFormatter, out: &mut [u8], answers: &mut [BatchAnswer]) {
+        let done = [formatter.format_ids_into(out, answers, &self.ids), formatter.format_types_into(out, answers, &self.types)];
+        assert_eq!(black_box(done), [self.ids.len(), self.types.len()]);
+    }
+
+    fn compare(&self, formatter: &TypeFormatter, expected: &[Result<String, yokberd::Error>]) {
+        let texts = [formatter.format_ids(&self.ids), formatter.format_types(&self.types)].concat();
+        assert_eq!(texts, expected, "a batch");
+    }
+}
+
 fn line(number: usize, answer: &Result<String, yokberd::Error>) -> String {
     match answer {
         Ok(text) => format!("{number} 0 0x0 {text}\n"),
@@ -173,22 +206,25 @@ fn line(number: usize, answer: &Result<String, yokberd::Error>) -> String {
     }
 }
 
-// Plain and checked calls and the sheet answer as the original does, fresh and warm.
+// Plain and checked calls, the sheet and the batch answer as the original does, fresh and warm.
 fn compare(streams: &Streams, few: &[Call], many: &[Call], warm: &Theirs) {
     let (original, formatter) = (Original::new(streams), formatter(streams));
     for call in few {
         let (plain, fresh) = (our_answer(streams, *call), answer(&their_formatter(&original), *call));
         assert_eq!(plain, fresh, "{} {call:?}", streams.name);
     }
+    let checked: Vec<_> = many.iter().map(|call| checked_answer(&formatter, *call)).collect();
     let mut lines = String::new();
     let mut sheet = Sheet::new();
-    for (at, call) in many.iter().enumerate() {
-        let checked = checked_answer(&formatter, *call);
-        lines += &line(at + 1, &checked);
-        assert_eq!(checked.map_err(refusal), answer(warm, *call), "{} {call:?}", streams.name);
+    for ((at, call), checked) in many.iter().enumerate().zip(&checked) {
+        lines += &line(at + 1, checked);
+        assert_eq!(checked.clone().map_err(refusal), answer(warm, *call), "{} {call:?}", streams.name);
         call.add_to(&mut sheet);
     }
     assert!(formatter.sheet_lines(&sheet) == lines.as_bytes(), "{}: the sheet's lines differ", streams.name);
+    if let Some(batch) = Batch::of(many) {
+        batch.compare(&formatter, &checked);
+    }
 }
 
 // Some of the calls, all over them.
@@ -224,11 +260,14 @@ fn measure(streams: &Streams, few: &[Call], many: &[Call]) -> Times {
     compare(streams, few, many, &warm);
     let mut sheet = Sheet::new();
     many.iter().for_each(|call| call.add_to(&mut sheet));
-    let mut page = vec![0; checked.sheet_lines(&sheet).len()];
+    let page_len = checked.sheet_lines(&sheet).len();
+    let mut page = vec![0; page_len];
     let (mut out, mut checked_out) = ([0; ROOM], [0; ROOM]);
     let (mut fresh_text, mut warm_text) = (String::with_capacity(ROOM), String::with_capacity(ROOM));
     let print = || assert!(!black_box(checked.print_sheet(&sheet, &mut page, 0)).more);
-    let contenders = vec![
+    let batch = Batch::of(many);
+    let (mut texts, mut answers) = (vec![0; page_len], vec![BatchAnswer::default(); many.len()]);
+    let mut contenders = vec![
         each(few, |call| plain.ask(call, &mut out)),
         each(few, |call| theirs(&their_formatter(&original), call)),
         each(many, |call| ours(&checked, call, &mut checked_out)),
@@ -239,8 +278,12 @@ fn measure(streams: &Streams, few: &[Call], many: &[Call]) -> Times {
         each(few, |call| our_string(&formatter(streams), call)),
         each(many, |call| our_string(&checked, call)),
     ];
-    let [single, fresh, checked, warm, sheet, emit_fresh, emit_warm, made_string, checked_string] = in_turns(contenders).try_into().unwrap();
-    Times { single, fresh, checked, warm, sheet, emit_fresh, emit_warm, made_string, checked_string }
+    if let Some(batch) = &batch {
+        contenders.push(Contender { calls: many.len(), work: Box::new(|| batch.ask(&checked, &mut texts, &mut answers)) });
+    }
+    let times = in_turns(contenders);
+    let [single, fresh, checked, warm, sheet, emit_fresh, emit_warm, made_string, checked_string] = times[..9].try_into().unwrap();
+    Times { single, fresh, checked, warm, sheet, emit_fresh, emit_warm, made_string, checked_string, batch: times.get(9).copied() }
 }
 
 /// All kinds of calls over a pair of streams.
@@ -270,15 +313,23 @@ pub fn print(title: &str, rows: &[Row]) {
     }
 }
 
-/// The ratios with no string made on either side, and with one made on both.
+/// The ratios with no string made on either side, with one made on both, and of a batch into buffers.
 pub fn print_like_for_like(title: &str, rows: &[Row]) {
-    let columns =
-        ["Streams", "Records", "Call", "Single / fresh `emit_`", "Checked once / warm `emit_`", "New formatter, `String` / fresh", "`String` / warm"];
+    let columns = [
+        "Streams",
+        "Records",
+        "Call",
+        "Single / fresh `emit_`",
+        "Checked once / warm `emit_`",
+        "New formatter, `String` / fresh",
+        "`String` / warm",
+        "A batch's answer / warm",
+    ];
     head(title, &columns);
     for of in rows.iter().filter(|row| text(row)) {
-        let Times { single, fresh, checked, warm, emit_fresh, emit_warm, made_string, checked_string, .. } = of.times;
+        let Times { single, fresh, checked, warm, emit_fresh, emit_warm, made_string, checked_string, batch, .. } = of.times;
         let ratios = [single / emit_fresh, checked / emit_warm, made_string / fresh, checked_string / warm];
-        row(&[&start(of)[..], &ratios.map(ratio)].concat());
+        row(&[&start(of)[..], &ratios.map(ratio), &[batch.map_or("-".into(), |batch| ratio(batch / warm))]].concat());
     }
 }
 
