@@ -1,7 +1,8 @@
 #!/bin/sh
-# Tests the Rust crate at scale, beside the gate: cargo's tests and examples, its documentation without the library; then random and damaged streams, more of them, their sheets compared with
-# tools/reading.py, a reading of document 01 in Python; calls over streams checked once compared with the plain ones, and over any numbers; more random
-# streams compared with the original; then the tests that call the library once under valgrind, where it is installed.
+# Tests the Rust crate at scale, beside the gate: cargo's tests and examples, its documentation without the library; then random and damaged streams, more of
+# them, their sheets compared with tools/reading.py, a reading of document 01 in Python; calls over streams checked once and batches compared with the plain
+# calls, and over any numbers; more random streams compared with the original; then the tests that call the library once under valgrind, where it is
+# installed.
 #
 #     tools/staticlib.sh && tools/test-rust.sh [CASES]
 #
