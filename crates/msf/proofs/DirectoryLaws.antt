@@ -1,9 +1,9 @@
 -- Laws of the numbers of a directory. Assumes nothing.
 use Prim.Native.Nat.{ℕ, zero, suc, _+_, _*_, _-_, _/_, _≤_, _<_}
-use native.Mathlib.Nat.{le-refl, le-trans, eq-or-lt-of-le, mul-le-mul-right, suc-mul}
+use native.Mathlib.Nat.{le-refl, le-trans, eq-or-lt-of-le, mul-le-mul-right, suc-mul, sub-zero}
 use native.Mathlib.Numerals.{add-one}
 use native.Mathlib.Omega.{arith}
-use mathlib.Core.Path.{_≡_, ap, subst, _∙_}
+use mathlib.Core.Path.{_≡_, refl, ap, subst, _∙_}
 use mathlib.Core.Bool.{true, false}
 use mathlib.Core.List.{List}
 use mathlib.Core.Logic.{⊎-elim}
@@ -13,11 +13,11 @@ use borrow.Author.Tests.{eqb-true, ltb-true, eq-eqb, ne-eqb, lt-ltb, le-ltb, lt-
 use Rattle.msf.proofs.Laws.{both-good, held, both}
 use Rattle.msf.specs.Damage.{test}
 use Rattle.msf.specs.Superblock.{word, blocksFor, inside}
-use Rattle.msf.specs.Directory.{place, numberAt, streams, sizeOf, blocksOf, listed, allInside, filled, listsChecked, streamChecked}
+use Rattle.msf.specs.Directory.{mapPlace, place, numberAt, streams, sizeOf, blocksOf, listed, allInside, mapChecked, filled, listsChecked, streamChecked}
 use Rattle.msf.specs.Inner.{Sound}
 use Rattle.msf.specs.declared.damage.Checked.the-variants.{Good, Damaged}
 use Rattle.msf.specs.declared.damage.Damage.{Damage}
-use Rattle.msf.specs.declared.damage.Damage.the-variants.{Directory, StreamBlock, NoStream, NoRoom}
+use Rattle.msf.specs.declared.damage.Damage.the-variants.{DirectoryBlock, Directory, StreamBlock, NoStream, NoRoom}
 use Rattle.msf.specs.declared.superblock.Superblock.{Superblock}
 
 -- The two cases of a size.
@@ -28,6 +28,11 @@ blocks-none size n e = rw (eq-eqb n 0xFFFF_FFFF e)
 pub blocks-some : (size n r : ℕ) → (n ≡ 0xFFFF_FFFF → ⊥) → r ≡ blocksFor size n → r ≡ blocksOf size n
 unfolding blocksOf
 blocks-some size n r e h = rw (ne-eqb n 0xFFFF_FFFF e) h
+
+-- All blocks of the directory, before the first is looked at.
+pub map-whole : (file : List ℕ) (s : Superblock) (n : ℕ) → n ≡ blocksFor (s .size) (s .directory) → mapChecked file s ≡ allInside file s (mapPlace s) DirectoryBlock (n - 0) 0
+unfolding mapChecked
+map-whole file s n e = rw (sub-zero, e) refl
 
 -- The blocks of one stream more.
 pub listed-more : (file : List ℕ) (s : Superblock) (i : ℕ) → listed file s (i + 1) ≡ listed file s i + blocksOf (s .size) (numberAt file s (1 + i))

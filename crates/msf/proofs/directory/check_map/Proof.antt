@@ -1,12 +1,11 @@
 -- The invariant: looking on from here finds the first number that is not inside. The measure is what is left of them.
 -- Assumes nothing.
 use Prim.Native.Nat.{_≤_, _-_}
-use native.Mathlib.Nat.{sub-zero}
 use mathlib.Core.Path.{_≡_, sym, _∙_}
 use Rattle.msf.specs.Directory.{mapPlace, allInside, mapChecked}
 use Rattle.msf.specs.declared.damage.Damage.the-variants.{DirectoryBlock}
 use Rattle.msf.proofs.Laws.{failed, passed}
-use Rattle.msf.proofs.DirectoryLaws.{outside-here, inside-here, none-left}
+use Rattle.msf.proofs.DirectoryLaws.{map-whole, outside-here, inside-here, none-left}
 use native.Mathlib.Omega.{arith}
 use borrow.Author.Needs.{needs}
 use Rattle.msf.proofs.directory.check_map.Statement.{statement}
@@ -22,8 +21,7 @@ blocks-for-requires : tie.Need-blocks-for-requires Inv-loop μ-loop
 blocks-for-requires c κs = omega (arith, c .before .pre .least)
 
 loop-holds : tie.Need-loop-holds Inv-loop μ-loop
-unfolding mapChecked
-loop-holds c = (omega arith, rw (c .blocks-for .ensures .0, sub-zero))
+loop-holds c = (omega arith, map-whole (c .before .before .args .file .now) (c .before .before .args .s) _ (c .blocks-for .ensures .0))
 
 map-place-requires : tie.Need-map-place-requires Inv-loop μ-loop
 map-place-requires c κs = (c .before .before .before .before .pre .most, omega (arith, c .before .before .blocks-for .ensures .1))
