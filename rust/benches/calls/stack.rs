@@ -1,5 +1,5 @@
 //! The stack of the deepest calls.
-use crate::common::library::Plain;
+use crate::common::library::{Batch, Plain};
 use crate::common::{self, Call, FIRST};
 use crate::table::{head, row};
 use std::process::Command;
@@ -8,7 +8,7 @@ use yokberd::{Sheet, TypeFormatter, TypeFormatterFlags};
 
 /// In a fresh process, which row of `deep_rows` to ask for and how: its number, a colon and one of `WAYS`; or `none`.
 pub const STACK_OF: &str = "YOKBERD_STACK_OF";
-const WAYS: [&str; 3] = ["plain", "checked", "sheet"];
+const WAYS: [&str; 4] = ["plain", "checked", "sheet", "batch"];
 
 // What no call may take.
 const MOST: u64 = 512;
@@ -27,16 +27,15 @@ pub fn after(row: &str) {
     let mut out = vec![0; 8192];
     if let Some((at, way)) = row.split_once(':') {
         let (types, call) = (&rows[at.parse::<usize>().unwrap()].1, Call::Type(FIRST));
-        if way == "plain" {
-            Plain { types, ids: types, pointer_size: 8, flags: 0 }.ask(call, &mut out).unwrap();
-        } else {
-            let formatter = TypeFormatter::new_from_parts(types, types, 8, TypeFormatterFlags::empty());
-            let mut sheet = Sheet::new();
-            call.add_to(&mut sheet);
-            match way {
-                "sheet" => assert!(formatter.print_sheet(&sheet, &mut out, 0).lines == 1),
-                _ => assert!(call.ask(&formatter, &mut out).is_ok()),
-            }
+        let plain = Plain { types, ids: types, pointer_size: 8, flags: 0 };
+        let formatter = || TypeFormatter::new_from_parts(types, types, 8, TypeFormatterFlags::empty());
+        let (mut sheet, mut answers) = (Sheet::new(), [1; 4]);
+        call.add_to(&mut sheet);
+        match way {
+            "plain" => assert!(plain.ask(call, &mut out).is_ok()),
+            "batch" => assert_eq!((plain.batch(Batch::Types, &[FIRST], &mut out, &mut answers), answers[0]), (1, 0)),
+            "sheet" => assert!(formatter().print_sheet(&sheet, &mut out, 0).lines == 1),
+            _ => assert!(call.ask(&formatter(), &mut out).is_ok()),
         }
     }
     println!("{}", pages());
@@ -48,7 +47,7 @@ fn in_a_fresh_process(row: &str) -> u64 {
 }
 
 pub fn print() {
-    head("Stack of one call, in KiB", &["A row of as many open indexes as there may be", "Single", "Checked once", "In a sheet"]);
+    head("Stack of one call, in KiB", &["A row of as many open indexes as there may be", "Single", "Checked once", "In a sheet", "In a plain batch"]);
     let (none, mut most) = (in_a_fresh_process("none"), 0);
     for (at, (name, _)) in common::deep_rows().iter().enumerate() {
         let taken = WAYS.map(|way| in_a_fresh_process(&format!("{at}:{way}")).saturating_sub(none));
