@@ -1,7 +1,7 @@
 #!/usr/bin/env python3
 """cases.py CRATE: writes the files data/*.bin and args of the program `test_cases` into its folder CRATE and prints the lines that it must print.
 
-Each case has its records and, beside them, its answers, which were worked out by hand from document 01. The script also asks tools/reading.py,
+Each case has its records and, beside them, its answers, which were worked out by hand from documents 01 and 02. The script also asks tools/reading.py,
 a reading of the document in Python, and stops where that answers otherwise."""
 import os
 import sys
@@ -461,7 +461,26 @@ checks("both-headers", HEADER, HEADER, (3, 0), (3, 0))
 checks("tiling-header", TILING, HEADER, (4, 0), (4, 0))
 checks("header-tiling", HEADER, TILING, (3, 0), (3, 0))
 checks("no-types", b"", GOOD_IDS, (3, 0), (3, 0))
-checks("no-ids", GOOD, b"", None, (3, 1))
+checks("ids-byte", GOOD, b"\0", None, (3, 1))
+checks("ids-cut", GOOD, header(0x1000, 0x1000, 0)[:55], None, (3, 1))
+checks("no-streams", b"", b"", (3, 0), (3, 0))
+checks("tiling-no-ids", TILING, b"", (4, 0), (4, 0))
+
+
+def absent(name, ids):
+    """Document 02, Note 1: where there are no ids, by no bytes or by a header and no records, each index is 6 or missing; the mark has 21 bytes."""
+    case(name, GOOD, ids,
+         I(0x1000, "<missing type 0x1000>"), I(0, "<missing type 0x0>"), I(0x74, "<missing type 0x74>"), I(0x7fffffff, "<missing type 0x7fffffff>"),
+         I(0x80000000, (6, 0x80000000)), I(0x80001000, (6, 0x80001000)), I(0xffffffff, (6, 0xffffffff), room=0),
+         I(0x1000, "<missing type 0x1000>", room=21), I(0x1000, (15, 0), room=20), I(0x1000, (15, 0), room=0),
+         I(0x1000, "<missing type 0x1000>", flags=0x3f), I(0x1000, (2, 1), size=1), I(0x1000, (1, 0x200), flags=0x200, size=1),
+         T(0x1000, "int"), T(0x1002, "<missing type 0x1002>"), F("f", 0x1001, "void f(int)"), S(0x74, 4))
+
+
+absent("no-ids", b"")
+absent("no-id-records", header(0x1000, 0x1000, 0))
+absent("no-id-records-from-2000", header(0x2000, 0x2000, 0))
+absent("no-id-records-at-the-end", header(0x80000000, 0x80000000, 0))
 # Each condition on a type stream, one short of it or one past it. `LIST` has 12 bytes.
 LIST = arguments(0x74)
 

@@ -1,7 +1,7 @@
 #!/usr/bin/env python3
 """damaged.py DIR: writes small damaged streams into DIR and prints the lines that `dump_records` must print for them.
 
-Each case has its bytes and, beside them, its line, which was worked out by hand from document 01 and cvinfo.h. No line comes from a program."""
+Each case has its bytes and, beside them, its line, which was worked out by hand from documents 01 and 02 and cvinfo.h. No line comes from a program."""
 import os
 import sys
 
@@ -56,9 +56,10 @@ int_line = "0x1000 0x1201 arguments 0x74"
 
 # Refusal 3: each condition of the header, one short of it or one past it.
 case("types", "empty.bin", b"", ["refused 3 0x0"])
-case("ids", "empty.bin", b"", ["refused 3 0x1"])
 case("types", "one-byte.bin", b"\0", ["refused 3 0x0"])
+case("ids", "one-byte.bin", b"\0", ["refused 3 0x1"])
 case("types", "header-cut.bin", header(0x1000, 0x1000, 0)[:55], ["refused 3 0x0"])
+case("ids", "header-cut.bin", header(0x1000, 0x1000, 0)[:55], ["refused 3 0x1"])
 case("types", "header-size.bin", stream([int_list], header_size=57), ["refused 3 0x0"])
 case("types", "first-low.bin", stream([], first=0xfff), ["refused 3 0x0"])
 case("types", "end-below-first.bin", stream([], first=0x1001, end=0x1000), ["refused 3 0x0"])
@@ -76,7 +77,8 @@ case("types", "half-a-length.bin", stream([int_list + u8(4)], end=0x1002), ["ref
 case("types", "too-few.bin", stream([int_list], end=0x1002), ["refused 4 0x0"])
 case("types", "too-many.bin", stream([int_list, int_list], end=0x1001), ["refused 4 0x0"])
 case("ids", "too-many.bin", stream([int_list, int_list], end=0x1001), ["refused 4 0x1"])
-# What looks odd and is whole: no record at all, bytes behind the records, a first index above 0x1000.
+# What looks odd and is whole: ids of no bytes (document 02, Note 1), no record at all, bytes behind the records, a first index above 0x1000.
+case("ids", "empty.bin", b"", [])
 case("types", "no-records.bin", stream([]), [])
 case("types", "bytes-behind.bin", stream([int_list], after=b"behind"), [int_line])
 case("types", "first-high.bin", stream([int_list], first=0x2000), ["0x2000 0x1201 arguments 0x74"])

@@ -1,13 +1,13 @@
 #!/usr/bin/env python3
-"""A reading of document 01 in plain Python: streams, records, the four calls, refusals, flags and sizes.
+"""A reading of documents 01 and 02 in plain Python: streams, records, the four calls, refusals, flags and sizes.
 
     reading.py sheet DIR          prints the lines of `names` for types.bin, ids.bin and sheet.bin in DIR
     reading.py sheets DIR...      compares those lines with DIR/expected.txt, for each DIR
     reading.py vectors CRATE      prints what `test_vectors` must print, from the files args and data/*.bin of its folder CRATE
     reading.py ids TYPES IDS      prints each id of a pair of streams with its text under flags 0
 
-It was made from the document and from the texts of the Rust module that the document names; where the document leaves a choice, it takes that of
-docs/READINGS.md. Nothing of the Rattle code or its definitions is used. Expected outputs are made by it, so it is kept simple rather than fast."""
+It was made from the documents and from the texts of the Rust module that they name; where they leave a choice, it takes that of docs/READINGS.md. Of
+document 02 it has Note 1. Nothing of the Rattle code or its definitions is used. Expected outputs are made by it, so it is kept simple rather than fast."""
 import os
 import sys
 
@@ -198,10 +198,13 @@ IDS_UNHANDLED = (0x1603, 0x1606, 0x1607)
 
 
 class Stream:
-    """A checked stream: 3 for its header, 4 where its records do not tile. `which` is 0 for types and 1 for ids."""
+    """A checked stream: 3 for its header, 4 where its records do not tile. `which` is 0 for types and 1 for ids; ids of no bytes are no ids at all."""
 
     def __init__(self, data, which):
         self.which = which
+        if which == 1 and not data:
+            self.first, self.end, self.records = 0, 0, []
+            return
         if len(data) > 16777216 or len(data) < 56:
             raise Refused(3, which)
         header_size, self.first, self.end, size = (int.from_bytes(data[at:at + 4], "little") for at in (4, 8, 12, 16))

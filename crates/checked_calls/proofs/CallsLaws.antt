@@ -8,8 +8,8 @@ use lib.ListN.{length}
 use native.Mathlib.Omega.{arith}
 use borrow.Author.Tests.{le-leb}
 use Rattle.wire.specs.Field.{pick}
-use Rattle.streams.specs.Stream.{checked}
-use Rattle.streams.specs.Bounds.{none, streamIn, spacingIn, checkIn, placesIn}
+use Rattle.streams.specs.Stream.{none, checked}
+use Rattle.streams.specs.Bounds.{streamIn, spacingIn, checkIn, placesIn}
 use Rattle.streams.specs.declared.refusal.StreamKind.the-variants.{Types, Ids}
 use Rattle.streams.specs.declared.refusal.Refusal.{Refusal}
 use Rattle.streams.specs.declared.refusal.Refusal.the-variants.{UnknownFlags, PointerSize, ChainTooLong}

@@ -10,7 +10,7 @@ use lib.Dec.{T, leb, ltb, eqb, leb→le, le→leb}
 use lib.ListN.{length}
 use Rattle.wire.specs.Field.{pick}
 use Rattle.streams.specs.Refusal.{numberOf}
-use Rattle.streams.specs.Stream.{checked}
+use Rattle.streams.specs.Stream.{none, checked}
 use Rattle.streams.specs.declared.refusal.StreamKind.the-variants.{Types, Ids}
 use Rattle.streams.specs.declared.refusal.Refusal.{Refusal}
 use Rattle.streams.specs.declared.refusal.Refusal.the-variants as refusal₀
@@ -24,7 +24,6 @@ use Rattle.rules.specs.Flags.{Settings, settings, sized, flagged}
 use Rattle.rules.specs.Record.{Table, tableOf}
 use Rattle.rules.specs.Task.{Task, byItself, functionOf, sizeOf, idOf}
 use Rattle.rules.specs.Opening.{sameIndex, entryOf, body, rank, walked, plainly}
-use Rattle.streams.specs.Bounds.{none}
 use Rattle.rules.specs.Call.{Outcome, text, stopped, answer, within, refusal, whole, overTypes, overIds, functionReading, idReading, typeReading, sizeReading, strictly, plainTo, metAgain, limitPassed, Reads, Demand, FunctionDemand, IdDemand, TypeDemand, SizeFinished}
 use Rattle.rules.proofs.Rank.{ranked}
 

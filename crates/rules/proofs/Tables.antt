@@ -2,9 +2,8 @@
 use Prim.Native.Nat.{ℕ}
 use mathlib.Core.Path.{_≡_, sym, _∙_, ap, fun-ext}
 use mathlib.Core.List.{List, []}
-use Rattle.streams.specs.Stream.{firstRecord}
+use Rattle.streams.specs.Stream.{none, firstRecord}
 use Rattle.streams.specs.Places.{RightFor, nearest}
-use Rattle.streams.specs.Bounds.{none}
 use Rattle.streams.specs.declared.stream.Stream.{Stream}
 use Rattle.streams.specs.declared.places.Spacing.{Spacing}
 use Rattle.streams.proofs.Marks.{look-nothing}

@@ -8,8 +8,7 @@ use lib.Dec.{leb}
 use lib.ListN.{length, drop, replicate}
 use Rattle.wire.specs.Field.{pick}
 use Rattle.streams.specs.Refusal.{numberOf, detailOf}
-use Rattle.streams.specs.Stream.{checked}
-use Rattle.streams.specs.Bounds.{none}
+use Rattle.streams.specs.Stream.{none, checked}
 use Rattle.streams.specs.declared.refusal.StreamKind.the-variants.{Types, Ids}
 use Rattle.streams.specs.declared.refusal.Refusal.{Refusal}
 use Rattle.streams.specs.declared.refusal.Refusal.the-variants.{Missing, CircularTypeDefinition, TooManyOpen, ChainTooLong, NoRoom}

@@ -148,6 +148,20 @@ look-nothing {A} t from i k m x = go (leb 0x8000_0000 i) (ltb i (from .index)) (
     go false false true = refl
     go false false false = none (i - from .index) (from .at)
 
+-- In a stream of no records nothing is found either.
+pub look-none : {A : Type 0} (s : List ℕ) (t : Stream) → t .end ≤ t .first → (i : ℕ) (k : ℕ → ℕ → ℕ → A) (m x : A) → lookFrom s t (firstRecord t) i k m x ≡ pick (leb 0x8000_0000 i) x m
+unfolding lookFrom walkFrom
+look-none {A} s t h i k m x = go (leb 0x8000_0000 i) (ltb i (t .first)) (leb (t .end) i) refl refl
+  where
+    found : ℕ → A
+    found at = recordAt (take (t .stop) s) at k m
+
+    go : (a b c : Bool) → ltb i (t .first) ≡ b → leb (t .end) i ≡ c → pick a x (pick b m (pick c m (passed (i - t .first) (take (t .stop) s) 56 found m))) ≡ pick a x m
+    go true b c e f = refl
+    go false true c e f = refl
+    go false false true e f = refl
+    go false false false e f = absurd (omega (arith, h, ltb-false i (t .first) e, leb-false (t .end) i f))
+
 -- Places of a whole stream that are right make right marks, whatever number of them is in use.
 pub strided-right : (stride room : ℕ) (ps : List ℕ) (count : ℕ) (s : List ℕ) → count ≤ 0xffff_ffff → RightPlaces stride ps count s → RightMarks (strided stride room) ps count s
 unfolding markBy markIn passed

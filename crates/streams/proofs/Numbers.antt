@@ -9,9 +9,9 @@ use lib.ListN.{length, take, drop, getD, drop-of-length-le, length-drop}
 use lib.Seq.{take-all}
 use lib.Dec.{leb, eqb}
 use Rattle.wire.specs.Field.{pick}
-use Rattle.streams.specs.Stream.{header, tiled, checked}
+use Rattle.streams.specs.Stream.{header, tiled, none, noIds, headless, checked}
 use Rattle.streams.specs.Places.{RightFor, NotedFor}
-use Rattle.streams.specs.Bounds.{startOf, streamIn, spacingIn, checkIn, placesIn, stateOf, none, streamOf, boundsOf}
+use Rattle.streams.specs.Bounds.{startOf, streamIn, spacingIn, checkIn, placesIn, stateOf, streamOf, boundsOf}
 use Rattle.streams.specs.declared.refusal.StreamKind.{StreamKind}
 use Rattle.streams.specs.declared.refusal.StreamKind.the-variants.{Types, Ids}
 use Rattle.streams.specs.declared.refusal.Refusal.the-variants.{Header, Tiling}
@@ -45,18 +45,22 @@ pub record Fitting (t : Stream) : Type 0 where
 
 module _ (which : StreamKind) (s : List ℕ) (P : StreamCheck → Type 0) (g : (t : Stream) → Fitting t → P (Good t)) (x : P (Refused (Tiling which))) (y : P (Refused (Header which))) where
   pub by-check : P (checked which s)
-  unfolding checked
+  unfolding checked headless
   by-check = go (header s head.Good head.Broken) refl
     where
       tiling : (b : Bool) (t : Stream) → Fitting t → P (pick b (Good t) (Refused (Tiling which)))
       tiling true t f = g t f
       tiling false t f = x
 
-      go : (h : Head) → h ≡ header s head.Good head.Broken → P (header s (λ first end stop. pick (tiled (end - first) (take stop s)) (Good (record { first = first; end = end; stop = stop })) (Refused (Tiling which))) (Refused (Header which)))
+      broken : (b : Bool) → P (pick b (Good none) (Refused (Header which)))
+      broken true = g none (record { fits = omega arith })
+      broken false = y
+
+      go : (h : Head) → h ≡ header s head.Good head.Broken → P (header s (λ first end stop. pick (tiled (end - first) (take stop s)) (Good (record { first = first; end = end; stop = stop })) (Refused (Tiling which))) (pick (noIds which s) (Good none) (Refused (Header which))))
       go (head.Good first end stop) e =
           rw (header-good s e first end stop refl)
           (tiling (tiled (end - first) (take stop s)) (record { first = first; end = end; stop = stop }) (record { fits = omega (arith, header-within s e first end stop refl .1, header-small s e first end stop refl) }))
-      go head.Broken e = rw (header-broken s e refl) y
+      go head.Broken e = rw (header-broken s e refl) (broken (noIds which s))
 
 -- What the state of a check says.
 module _ (ns : List ℕ) (which : StreamKind) where

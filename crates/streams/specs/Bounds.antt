@@ -6,6 +6,7 @@ use lib.ListN.{take, drop, getD}
 use lib.Dec.{eqb}
 use Rattle.wire.specs.Field.{pick}
 use Rattle.streams.specs.Refusal.{numberOf}
+use Rattle.streams.specs.Stream.{none}
 use Rattle.streams.specs.declared.refusal.StreamKind.{StreamKind}
 use Rattle.streams.specs.declared.refusal.StreamKind.the-variants as stream
 use Rattle.streams.specs.declared.refusal.Refusal.the-variants.{Header, Tiling}
@@ -55,10 +56,7 @@ unfoldable pub stateOf : StreamCheck → ℕ
 stateOf (Good t) = 1
 stateOf (Refused f) = numberOf f
 
--- No stream: what stands for one that was refused, and for the ids where a call is not for an id.
-abbrev pub none : Stream
-none = record { first = 0; end = 0; stop = 0 }
-
+-- What is noted of a stream that was refused is none.
 unfoldable pub streamOf : StreamCheck → Stream
 streamOf (Good t) = t
 streamOf (Refused f) = none

@@ -6,6 +6,7 @@ use lib.ListN.{length, take, drop}
 use lib.Dec.{leb, ltb, eqb}
 use Rattle.wire.specs.Field.{pick, field}
 use Rattle.streams.specs.declared.refusal.StreamKind.{StreamKind}
+use Rattle.streams.specs.declared.refusal.StreamKind.the-variants as stream
 use Rattle.streams.specs.declared.refusal.Refusal.the-variants.{Header, Tiling}
 use Rattle.streams.specs.declared.stream.Stream.{Stream}
 use Rattle.streams.specs.declared.stream.Cursor.{Cursor}
@@ -52,13 +53,26 @@ passed (suc n) s at next beyond = behind s at (λ at. passed n s at next beyond)
 unfoldable pub tiled : ℕ → List ℕ → Bool
 tiled n s = passed n s 56 (λ at. eqb at (length s)) false
 
+-- No stream: what stands for ids that are not there, and for a stream that was refused.
+abbrev pub none : Stream
+none = record { first = 0; end = 0; stop = 0 }
+
+-- "An id stream of length 0 now means no ids at all .. The type stream keeps its header." (document 02, Note 1)
+unfoldable pub noIds : StreamKind → List ℕ → Bool
+noIds stream.Types s = false
+noIds stream.Ids s = eqb (length s) 0
+
+-- The check of a stream with a broken header: 3. "Refusal 3 is no longer given for an id stream of length 0." (Note 1)
+unfoldable pub headless : StreamKind → List ℕ → StreamCheck
+headless which s = pick (noIds which s) (Good none) (Refused (Header which))
+
 -- The check of a stream: 3 where the header is broken, 4 where the records do not tile.
 unfoldable pub checked : StreamKind → List ℕ → StreamCheck
 checked which s =
     header s
     (λ first end stop.
     pick (tiled (end - first) (take stop s)) (Good (record { first = first; end = end; stop = stop })) (Refused (Tiling which)))
-    (Refused (Header which))
+    (headless which s)
 
 -- What follows from the record at a place: its kind is handed on, with the place where its fields start and the place behind them.
 unfoldable pub recordAt : {A : Type 0} → List ℕ → ℕ → (ℕ → ℕ → ℕ → A) → A → A

@@ -16,6 +16,7 @@ use crate::refusal::StreamKind;
 use crate::stream::Found;
 use crate::stream::Stream;
 use crate::stream::StreamCheck;
+use crate::stream::no_stream;
 use crate::stream::record_behind;
 use wire::bytes::shorter;
 
@@ -162,11 +163,7 @@ fn stream_of(c: StreamCheck) -> Stream
 {
     match c {
         StreamCheck::Good(t) => t,
-        StreamCheck::Refused(_) => Stream {
-            first: 0,
-            end: 0,
-            stop: 0,
-        },
+        StreamCheck::Refused(_) => no_stream(),
     }
 }
 

@@ -2,7 +2,7 @@
 ghost use mathlib.Core.Path.{_≡_};
 ghost use Prim.Native.Nat.{_≤_, _<_, _/_, _-_, min};
 ghost use lib.ListN.{length};
-ghost use Rattle.streams.specs.Stream.{lookFrom};
+ghost use Rattle.streams.specs.Stream.{noIds, headless, lookFrom};
 ghost use Rattle.streams.specs.Places.{markIn, markBy, nearest, servesIn, servesUntil, strided, spaced, Parted, Noted, NotedFor};
 ghost use Rattle.streams.specs.declared.stream.Found.the-variants as found;
 use crate::refusal::Refusal;
@@ -15,6 +15,7 @@ use crate::stream::Stream;
 use crate::stream::StreamCheck;
 use crate::stream::behind_records;
 use crate::stream::header_of;
+use crate::stream::no_stream;
 use crate::stream::record_behind;
 use crate::stream::records_of;
 
@@ -300,6 +301,26 @@ pub fn strided_by(stride: u32, room: u32) -> Spacing
     }
 }
 
+// Whether a stream is an id stream of no bytes, which has no ids.
+fn no_ids(s: &[u8], which: StreamKind) -> bool
+    ensures { λ r. ⌜ r ≡ noIds which (now (s .entry)) ⌝ }
+{
+    match which {
+        StreamKind::Types => false,
+        StreamKind::Ids => s.len() == 0,
+    }
+}
+
+// The check of a stream with a broken header.
+fn without_header(s: &[u8], which: StreamKind) -> StreamCheck
+    ensures { λ r. ⌜ r ≡ headless which (now (s .entry)) ⌝ }
+{
+    if no_ids(s, which) {
+        return StreamCheck::Good(no_stream());
+    }
+    StreamCheck::Refused(Refusal::Header(which))
+}
+
 // The check of a stream in one pass, which notes every `stride`-th place; a stride of 0 is one that suits the places.
 pub fn check_with_stride(s: &[u8], which: StreamKind, stride: u32, places: &mut [u32]) -> NotedCheck
     ensures { λ r. ⌜ NotedFor which (now (s .entry)) (now (places .entry)) (now (places .exit)) r ⌝ }
@@ -307,7 +328,7 @@ pub fn check_with_stride(s: &[u8], which: StreamKind, stride: u32, places: &mut 
     let room = entries(places.len());
     let Head::Good(first, end, stop) = header_of(s) else {
         return NotedCheck {
-            check: StreamCheck::Refused(Refusal::Header(which)),
+            check: without_header(s, which),
             spacing: strided_by(1, room),
         };
     };

@@ -3,7 +3,7 @@ ghost use mathlib.Core.Path.{_≡_};
 ghost use Prim.Native.Nat.{_+_, _≤_, _<_};
 ghost use lib.ListN.{length, take};
 ghost use Rattle.wire.specs.Field.{number};
-ghost use Rattle.streams.specs.Stream.{indexes, header, behind, passed, recordAt, walkFrom};
+ghost use Rattle.streams.specs.Stream.{none, indexes, header, behind, passed, recordAt, walkFrom};
 ghost use Rattle.streams.specs.declared.stream.Head.the-variants as head;
 ghost use Rattle.streams.specs.declared.stream.Place.the-variants.{At, Beyond};
 ghost use Rattle.streams.specs.declared.stream.CursorRead.the-variants as cursor;
@@ -53,6 +53,17 @@ pub enum Head {
 pub enum Place {
     At(usize),
     Beyond,
+}
+
+// No stream: for ids that are not there, and for what was refused.
+pub fn no_stream() -> Stream
+    ensures { λ r. ⌜ r ≡ none ⌝ }
+{
+    Stream {
+        first: 0,
+        end: 0,
+        stop: 0,
+    }
 }
 
 fn indexes_of(s: &[u8]) -> Head

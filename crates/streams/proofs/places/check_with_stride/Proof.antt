@@ -8,7 +8,7 @@ use denote.Ref.{now}
 use borrow.Author.Tests.{eq-eqb, ne-eqb}
 use native.Mathlib.Omega.{arith}
 use Rattle.streams.proofs.Walk.{header-within, header-small}
-use Rattle.streams.proofs.Noted.{noted-broken, noted-tiling, noted-good, noted-past, noted-at, noted-marks}
+use Rattle.streams.proofs.Noted.{noted-headless, noted-tiling, noted-good, noted-past, noted-at, noted-marks}
 use borrow.Author.Needs.{needs}
 use Rattle.streams.proofs.places.check_with_stride.Statement.{statement}
 use Rattle.streams.proofs.places.check_with_stride.Tie as tie
@@ -25,11 +25,14 @@ enum-known-first c = search needs
 enum-told : tie.Need-enum-told
 enum-told c = search needs
 
+without-header-requires : tie.Need-without-header-requires
+without-header-requires c κs = search needs
+
 strided-by-requires : tie.Need-strided-by-requires
 strided-by-requires c κs = search needs
 
 returns : tie.Need-returns
-returns c = noted-broken _ _ (c .before .before .before .header-of .ensures) _ _ refl _ (c .before .enum-told .given .1)
+returns c = noted-headless _ _ (c .before .before .before .before .header-of .ensures) _ _ refl _ (c .before .before .enum-told .given .1) (c .before .without-header .ensures)
 
 sub-stride-or : tie.Need-sub-stride-or
 sub-stride-or c = omega (arith, header-within _ (c .before .before .before .header-of .ensures) _ _ _ (c .before .first .given .1))
@@ -87,6 +90,7 @@ check-with-stride-spec =
     header-of-requires
     enum-known-first
     enum-told
+    without-header-requires
     strided-by-requires
     returns
     sub-stride-or
