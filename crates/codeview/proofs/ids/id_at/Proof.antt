@@ -1,5 +1,6 @@
 -- What the look-up found: each return is a case of the definition.
 -- Assumes nothing.
+use mathlib.Core.Path.{refl}
 use denote.Ref.{now}
 use Rattle.streams.specs.Stream.{part}
 use Rattle.codeview.specs.Read.{idFrom}
@@ -39,7 +40,7 @@ returns c = rw (look-by _ _ _ _ (c .before .before .before .before .before .look
 
 returns-2 : tie.Need-returns-2
 unfolding idFrom
-returns-2 c = rw (look-by _ _ _ _ (c .before .before .look-up-in .ensures) (c .enum-told .given .1))
+returns-2 c = rw (look-by _ _ _ _ (c .before .before .look-up-in .ensures) (c .enum-told .given .1)) refl
 
 returns-3 : tie.Need-returns-3
 unfolding idFrom
