@@ -2,10 +2,12 @@
 """Makes the data files of the programs `names` and `test_sheets`.
 
     sheets.py names CRATE            writes data/types.bin, ids.bin, sheet.bin and stdout of `names` into its folder CRATE, and prints the table of its README
-    sheets.py sheets CRATE DIR...    copies the three files of each DIR into CRATE/data, and writes args and, from each DIR/expected.txt, stdout
+    sheets.py sheets CRATE DIR...    copies the three files of each DIR into CRATE/data, and writes args and, from each DIR/expected.txt, stdout; a case of a
+                                     folder noteNN has that before its name. Then follows the sheet of `names` over no ids, once with a file of no
+                                     bytes and once with none
 
-The lines of `names` stand here beside their commands and were worked out by hand from document 01. The script also asks tools/reading.py, a reading of
-the document in Python, for the whole sheet and stops where that answers otherwise."""
+The lines of `names` stand here beside their commands and were worked out by hand from document 01, and those over no ids from document 02, Note 1. The script
+also asks tools/reading.py, a reading of the documents in Python, for the whole sheet and stops where that answers otherwise."""
 import os
 import sys
 
@@ -77,14 +79,25 @@ LINES = [
     ([type_(0x1007)], None, "not looked at"),
 ]
 
+COMMANDS = b"".join(b"".join(group) for group, _, _ in LINES)
+
+# "Each index that 6 does not refuse is missing and is written so": the lines of the commands 0x12 where there are no ids. The others stay.
+WITHOUT_IDS = {24: "24 0 0x0 <missing type 0x1000>", 25: "25 0 0x0 <missing type 0x1000>", 26: "26 0 0x0 <missing type 0x1001>"}
+
+
+def by_hand(types, ids, changed):
+    """The lines of the sheet, with those that changed, as the reading in Python has them too."""
+    told = [line for _, line, _ in LINES if line is not None]
+    lines = b"".join(changed.get(number, line).encode() + b"\n" for number, line in enumerate(told, 1))
+    read = reading.sheet(types, ids, COMMANDS)
+    if read != lines:
+        sys.exit("by hand %r, by reading.py %r" % next(p for p in zip(lines.split(b"\n"), read.split(b"\n")) if p[0] != p[1]))
+    return lines
+
 
 def names(crate):
     types, ids = stream(SMALL), stream(IDS)
-    commands = b"".join(b"".join(group) for group, _, _ in LINES)
-    lines = b"".join(line.encode() + b"\n" for _, line, _ in LINES if line is not None)
-    read = reading.sheet(types, ids, commands)
-    if read != lines:
-        sys.exit("by hand %r, by reading.py %r" % next(p for p in zip(lines.split(b"\n"), read.split(b"\n")) if p[0] != p[1]))
+    commands, lines = COMMANDS, by_hand(types, ids, {})
     for name, data in (("types.bin", types), ("ids.bin", ids), ("sheet.bin", commands)):
         put(data, crate, "data", name)
     put(lines, crate, "stdout")
@@ -97,11 +110,18 @@ def names(crate):
 def sheets(crate, folders):
     args, lines = [], []
     for folder in folders:
-        name = os.path.basename(folder.rstrip("/"))
+        *_, note, name = os.path.abspath(folder).split("/")
+        name = f"{note}-{name}" if note.startswith("note") else name
         for part in ("types", "ids", "sheet"):
             put(reading.load(folder, part + ".bin"), crate, "data", f"{name}-{part}.bin")
         args.append(name.encode() + b"\n")
         lines.append(reading.load(folder, "expected.txt"))
+    for name, files in (("no-ids-bytes", ("types", "ids", "sheet")), ("no-ids-file", ("types", "sheet"))):
+        given = {"types": stream(SMALL), "ids": b"", "sheet": COMMANDS}
+        for part in files:
+            put(given[part], crate, "data", f"{name}-{part}.bin")
+        args.append(name.encode() + b"\n")
+        lines.append(by_hand(given["types"], given["ids"], WITHOUT_IDS))
     put(b"".join(args), crate, "args")
     put(b"".join(lines), crate, "stdout")
 
