@@ -31,7 +31,7 @@ pub enum Error {
     UnknownFlags(u32),
     /// 2: the pointer size is not 4, 8 or 16.
     PointerSize(u32),
-    /// 3: a stream's header is broken, or the stream has more than 16,777,216 bytes.
+    /// 3: a stream's header is broken, or the stream has more than 16,777,216 bytes. An id stream of no bytes is not refused: there are no ids then.
     Header(StreamKind),
     /// 4: a stream's records do not fill the bytes that its header names.
     Tiling(StreamKind),

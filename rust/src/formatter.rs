@@ -74,6 +74,18 @@ pub struct TypeFormatter<'a> {
 impl<'a> TypeFormatter<'a> {
     /// A formatter over the bytes of a type stream and an id stream (streams 2 and 4 of a PDB), for a machine with pointers of `ptr_size` bytes. It checks
     /// both streams; where one is refused, so is each call over it.
+    ///
+    /// An empty slice for the ids says that there are none, as in a program that was linked without an id stream: each id is then written as missing.
+    ///
+    /// ```
+    /// use yokberd::{Error, IdIndex, TypeFormatter, TypeFormatterFlags};
+    ///
+    /// let types = std::fs::read("../crates/test_vectors/data/overloads-types.bin")?;
+    /// let formatter = TypeFormatter::new_from_parts(&types, &[], 8, TypeFormatterFlags::default());
+    /// assert_eq!(formatter.format_id(0, IdIndex(0x1001))?, "<missing type 0x1001>");
+    /// assert_eq!(formatter.format_id(0, IdIndex(0x8000_1001)), Err(Error::CrossModule(0x8000_1001)));
+    /// # Ok::<(), Box<dyn std::error::Error>>(())
+    /// ```
     pub fn new_from_parts(types: &'a [u8], ids: &'a [u8], ptr_size: u8, flags: TypeFormatterFlags) -> Self {
         TypeFormatter { types, ids, checked: check(types, ids), ptr_size, flags, text_limit: TEXT_LIMIT }
     }
@@ -208,7 +220,7 @@ impl<'a> TypeFormatter<'a> {
         Ok(header_indexes(self.types))
     }
 
-    /// The indexes of the id stream, or the refusal of each call over it. Such a call needs the type stream too.
+    /// The indexes of the id stream, none where it has no bytes, or the refusal of each call over it. Such a call needs the type stream too.
     pub fn id_indexes(&self) -> Result<Range<u32>> {
         match boundary::format_id(self.types, self.ids, &self.checked, &mut [], 0, 8, 0) {
             Err(error @ (Error::Header(_) | Error::Tiling(_))) => Err(error),

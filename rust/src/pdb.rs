@@ -23,7 +23,7 @@ const USUAL_POINTER_SIZE: u8 = 8;
 pub struct Pdb {
     /// The type stream.
     pub types: Vec<u8>,
-    /// The id stream.
+    /// The id stream; empty where the program was linked without one, and then each id is written as missing.
     pub ids: Vec<u8>,
     /// 4, 8 or 16, by the machine that the file names as the original has it; 8 where it names none.
     pub pointer_size: u8,
@@ -40,13 +40,18 @@ pub enum PdbError {
 }
 
 impl Pdb {
-    /// Reads both streams and the pointer size out of the bytes of a .pdb file. It does not check the streams' records: a formatter does that.
+    /// Reads both streams and the pointer size out of the bytes of a .pdb file. It does not check the streams' records: a formatter does that. In a file
+    /// without an id stream, as old linkers write it, there are no ids.
     pub fn read(file: &[u8]) -> Result<Self, PdbError> {
         let types = Self::read_types(file)?;
-        Ok(Pdb { ids: stream(file, StreamKind::Ids)?, ..types })
+        let ids = match stream(file, StreamKind::Ids) {
+            Err(PdbError::Container(_, ContainerError::NoStream(_))) => Vec::new(),
+            read => read?,
+        };
+        Ok(Pdb { ids, ..types })
     }
 
-    /// The same without the ids, for a file that has none: `ids` is empty, and each call for an id is refused.
+    /// The same with the ids left out, for whoever asks for none: `ids` is empty.
     pub fn read_types(file: &[u8]) -> Result<Self, PdbError> {
         Ok(Pdb { types: stream(file, StreamKind::Types)?, ids: Vec::new(), pointer_size: pointer_size(file) })
     }

@@ -59,6 +59,9 @@ fn statuses() {
     assert_eq!(status(&["ids", "--types", &types, "--ids", &ids, "--index", "0x80001001"]), (Some(0), false, 0), "a refused index");
     assert_eq!(status(&["ids", "--types", &ids, "--ids", &types]), (Some(1), true, 1), "exchanged streams");
     assert_eq!(status(&["ids", &types]), (Some(1), true, 1), "a stream in place of a .pdb file");
+    assert_eq!(status(&["ids", "--types", &types, "--ids", "/dev/null"]), (Some(0), true, 1), "no ids, which is said");
+    assert_eq!(status(&["ids", "--types", &types, "--ids", "/dev/null", "--index", "0x1001"]), (Some(0), false, 0), "a missing id");
+    assert_eq!(status(&["ids", "--types", &ids, "--ids", "/dev/null", "--index", "0x1001"]), (Some(1), true, 1), "ids as types");
     assert_eq!(status(&["ids", "--types", &types, "--ids", &ids, "--pointer-size", "5"]), (Some(2), true, 1), "a bad pointer size");
 }
 

@@ -3,7 +3,7 @@
 mod common;
 
 use common::real_streams;
-use yokberd::{read_stream, read_stream_into, stream_len, ContainerError, Error, IdIndex, Pdb, PdbError, StreamKind, TypeFormatterFlags};
+use yokberd::{read_stream, read_stream_into, stream_len, ContainerError, Error, IdIndex, Pdb, PdbError, StreamKind, TypeFormatterFlags, TypeIndex};
 
 const NIL: u32 = u32::MAX;
 
@@ -167,16 +167,35 @@ fn names_from_a_file() {
     assert_eq!(Pdb::read(&msf(&unnamed, 512).bytes).unwrap().pointer_size, 8, "no machine is named");
 }
 
+// Document 02, Note 1: without an id stream, or with one of no bytes, there are no ids, and each is written as missing.
+#[test]
+fn files_without_ids() {
+    let shorter = program(0x8664)[..4].to_vec();
+    let [mut absent, mut empty] = [program(0x8664), program(0x8664)];
+    (absent[4], empty[4]) = (None, Some(vec![]));
+    for streams in [shorter, absent, empty] {
+        let pdb = Pdb::read(&msf(&streams, 512).bytes).unwrap();
+        assert_eq!((&pdb.ids[..], pdb.pointer_size), (&[][..], 8));
+        let formatter = pdb.formatter(TypeFormatterFlags::empty());
+        assert_eq!(formatter.id_indexes(), Ok(0..0));
+        assert_eq!(formatter.format_id(0, IdIndex(0x1001)), Ok("<missing type 0x1001>".into()));
+        assert_eq!(formatter.format_function("advance", 0, TypeIndex(0x1001)), Ok("void advance(float)".into()));
+    }
+    let mut broken = program(0x8664);
+    broken[4] = Some(vec![0]);
+    let pdb = Pdb::read(&msf(&broken, 512).bytes).unwrap();
+    assert_eq!(pdb.formatter(TypeFormatterFlags::empty()).id_indexes(), Err(Error::Header(StreamKind::Ids)));
+    assert_eq!(Pdb::read_types(&msf(&broken, 512).bytes).unwrap().ids, []);
+}
+
 #[test]
 fn files_without_names() {
     let mut streams = program(0x8664);
-    streams.truncate(4);
+    streams[2] = None;
     let file = msf(&streams, 512);
-    let error = PdbError::Container(StreamKind::Ids, ContainerError::NoStream(file.directory));
+    let error = PdbError::Container(StreamKind::Types, ContainerError::NoStream(file.directory + 4 + 4 * 2));
     assert_eq!(Pdb::read(&file.bytes), Err(error));
-    assert_eq!(error.to_string(), "the file has no id stream");
-    let types = Pdb::read_types(&file.bytes).unwrap();
-    assert_eq!(types.formatter(TypeFormatterFlags::empty()).format_id(0, IdIndex(0x1001)), Err(Error::Header(StreamKind::Ids)));
+    assert_eq!(error.to_string(), "the file has no type stream");
     streams[2] = Some(vec![0; yokberd::STREAM_LIMIT + 1]);
     let error = Pdb::read(&msf(&streams, 4096).bytes).unwrap_err();
     assert_eq!(error, PdbError::TooLong(StreamKind::Types, 16_777_217));

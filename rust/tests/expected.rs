@@ -44,11 +44,52 @@ fn refusals_before_the_walk() {
     let odd = TypeFormatter::new_from_parts(&types, &[], 3, TypeFormatterFlags::empty());
     assert_eq!(odd.get_type_size(0, TypeIndex(0x74)), Err(Error::PointerSize(3)));
     assert_eq!(formatter(&[], &[], 0).format_type(0, TypeIndex(0x74)), Err(Error::Header(StreamKind::Types)));
-    assert_eq!(formatter(&types, &[], 0).format_id(0, IdIndex(0x1000)), Err(Error::Header(StreamKind::Ids)));
+    assert_eq!(formatter(&types, &[0], 0).format_id(0, IdIndex(0x1000)), Err(Error::Header(StreamKind::Ids)));
     let mut cut = types.clone();
     cut[16] -= 1;
     assert_eq!(formatter(&cut, &[], 0).format_type(0, TypeIndex(0x74)), Err(Error::Tiling(StreamKind::Types)));
     assert_eq!(formatter(&types, &[], 0).format_type(0, TypeIndex(0x8000_0000)), Err(Error::CrossModule(0x8000_0000)));
+}
+
+// Document 02, Note 1: "An id stream of length 0 now means no ids at all, so each index that 6 does not refuse is missing and is written so." By hand.
+#[test]
+fn streams_without_ids() {
+    let types = small_stream();
+    let none = formatter(&types, &[], 0);
+    for (index, text) in [(0, "<missing type 0x0>"), (0x1000, "<missing type 0x1000>"), (0x7fff_ffff, "<missing type 0x7fffffff>")] {
+        assert_eq!(none.format_id(0, IdIndex(index)), Ok(text.into()));
+        assert_eq!(none.format_ids(&[IdIndex(index)]), [Ok(text.into())]);
+    }
+    assert_eq!(none.format_id(0, IdIndex(0x8000_1000)), Err(Error::CrossModule(0x8000_1000)));
+    assert_eq!(none.format_id_into(&mut [0; 21], 0, IdIndex(0x1000)), Ok(21));
+    let mut short = [0xaa; 20];
+    assert_eq!((none.format_id_into(&mut short, 0, IdIndex(0x1000)), short), (Err(Error::NoRoom), [0; 20]));
+    assert_eq!(none.id_indexes(), Ok(0..0));
+    // types come first, and keep their header
+    assert_eq!(formatter(&[], &[], 0).format_id(0, IdIndex(0x1000)), Err(Error::Header(StreamKind::Types)));
+    assert_eq!(formatter(&[], &[], 0).id_indexes(), Err(Error::Header(StreamKind::Types)));
+    for len in [1, 55] {
+        assert_eq!(formatter(&types, &types[..len], 0).format_id(0, IdIndex(0x1000)), Err(Error::Header(StreamKind::Ids)));
+    }
+}
+
+// The same answers as over a header and no records, whatever its first index: for every kind of call, over every index that stands near something.
+#[test]
+fn no_ids_as_a_header_without_records() {
+    let types = small_stream();
+    let indexes = [0, 1, 0x74, 0xfff, 0x1000, 0x1001, 0x1fff, 0x2000, 0x7fff_ffff, 0x8000_0000, 0x8000_1000, u32::MAX].map(IdIndex);
+    for first in [0x1000_u32, 0x1001, 0x2000, 0x7fff_ffff, 0x8000_0000] {
+        let mut ids = common::stream(&[]);
+        ids[8..12].copy_from_slice(&first.to_le_bytes());
+        ids[12..16].copy_from_slice(&first.to_le_bytes());
+        for flags in 0..=0x40 {
+            let (none, header) = (formatter(&types, &[], flags), formatter(&types, &ids, flags));
+            assert_eq!(none.format_ids(&indexes), header.format_ids(&indexes), "first {first:#x} flags {flags:#x}");
+            for index in indexes {
+                assert_eq!(none.format_id(0, index), header.format_id(0, index), "{index} first {first:#x} flags {flags:#x}");
+            }
+        }
+    }
 }
 
 // "A stream has at most 16,777,216 bytes, or 3"; bytes behind the records are ignored.
@@ -197,9 +238,9 @@ fn given_sheets() {
     for room in [4150, 4151, 9000, 1 << 16] {
         let mut printed = Vec::new();
         for case in cases.lines() {
-            // `names` and `test_sheets` read so many bytes of a file
+            // `names` and `test_sheets` read so many bytes of a file; one that is not there has none
             let read = |kind: &str| {
-                let mut bytes = fs::read(data.join(format!("{case}-{kind}.bin"))).unwrap();
+                let mut bytes = fs::read(data.join(format!("{case}-{kind}.bin"))).unwrap_or_default();
                 bytes.truncate(16_384);
                 bytes
             };

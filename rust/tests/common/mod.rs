@@ -289,6 +289,10 @@ pub fn hostile_streams(rng: &mut Rng, case: usize) -> Streams {
     if rng.one_in(4) {
         damage(rng, &mut streams.ids);
     }
+    // a program that was linked without an id stream
+    if rng.one_in(10) {
+        streams.ids.clear();
+    }
     streams
 }
 

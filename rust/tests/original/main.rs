@@ -102,6 +102,21 @@ fn real_streams_have_the_originals_texts() {
     assert!(agreed.answers > 50_000);
 }
 
+// An id stream of no bytes here, one of no records there: the same marks (document 02, Note 1).
+#[test]
+fn no_ids_have_the_originals_marks() {
+    for streams in real_streams() {
+        let ids = (FIRST..FIRST + streams.id_count).map(Call::Id).chain([Call::Id(0x7fff_ffff), Call::Id(0x8000_1000)]);
+        let [none, no_records] =
+            [vec![], common::stream(&[])].map(|ids| Streams { name: streams.name.clone(), types: streams.types.clone(), ids, ..streams });
+        let original = Original::new(&no_records);
+        for (call, flags) in ids.flat_map(|call| (0..64).map(move |flags| (call, flags))) {
+            let expected = asked::answer(&original.formatter(flags, MachineType::Amd64), call);
+            assert_eq!(ours(&none, call, flags, 8), expected, "{} {call:?} flags {flags:#x}", streams.name);
+        }
+    }
+}
+
 // Random streams of the compared domain
 
 // A type index: of an earlier record, a primitive, now and then of none. `later` allows records behind, and so circles.

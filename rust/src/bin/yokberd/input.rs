@@ -1,6 +1,6 @@
 //! What is read: the file or the exported streams, and the indexes that are asked for.
 use crate::arguments::{function, index, trimmed, Arguments, Files, Item, What};
-use crate::messages::{grouped, Failure};
+use crate::messages::{grouped, remark, Failure};
 use crate::progress::Progress;
 use crate::records::{held, is_function, kinds, Held};
 use std::fs::File;
@@ -68,9 +68,6 @@ fn unread(file: &[u8], error: PdbError) -> String {
         PdbError::Container(StreamKind::Types, ContainerError::NoStream(_)) => {
             "it has no type stream; build it with debug information (clang -g -gcodeview, or cl /Zi)".to_string()
         }
-        PdbError::Container(StreamKind::Ids, ContainerError::NoStream(_)) => {
-            "it has no id stream, as files of old linkers have none; ask for types, sizes or functions, or link it with a newer linker".to_string()
-        }
         PdbError::TooLong(kind, len) => too_long(&format!("its {kind}"), len),
         _ => format!("it is damaged: {error}; {AGAIN}"),
     }
@@ -137,8 +134,9 @@ pub fn accepted(arguments: &Arguments, formatter: &TypeFormatter, streams: &Pdb)
     }
 }
 
-// Types and ids exchanged, or one given for both.
+// Types and ids exchanged, or one given for both. Ids of no bytes are exchanged with nothing.
 fn told_apart(types: &Path, ids: Option<&Path>, streams: &Pdb) -> Result<(), Failure> {
+    let ids = ids.filter(|_| !streams.ids.is_empty());
     match (ids, held(&streams.types), held(&streams.ids)) {
         (Some(ids), Held::Ids, Held::Types | Held::Nothing) => {
             let exchange = format!("--types {} --ids {}", ids.display(), types.display());
@@ -164,6 +162,18 @@ pub fn asked(arguments: &Arguments, indexes: Range<u32>, streams: &Pdb) -> Resul
         return Ok(indexes.zip(kinds(&streams.ids)).filter(|(_, kind)| is_function(*kind)).map(|(index, _)| bare(index)).collect());
     }
     Ok(indexes.map(bare).collect())
+}
+
+/// Where all ids are asked for and there are none, nothing is written; why is said on standard error.
+pub fn tell_no_ids(arguments: &Arguments, streams: &Pdb) {
+    let all = arguments.what == What::Ids && arguments.items.is_empty() && !arguments.from_input;
+    let path = match &arguments.files {
+        Files::Pdb(path) => Some(path),
+        Files::Exported { ids, .. } => ids.as_ref(),
+    };
+    if let Some(path) = path.filter(|_| all && streams.ids.is_empty()) {
+        remark(path, "it has no ids, as files of old linkers have none; ask for types, sizes or functions, or link it with a newer linker");
+    }
 }
 
 // A line for each index, with the name behind it where functions are asked for.

@@ -39,6 +39,7 @@ fn answer(arguments: &Arguments) -> Result<(), Failure> {
     let formatter = TypeFormatter::new_from_parts(&streams.types, &streams.ids, pointer_size, arguments.flags);
     let indexes = input::accepted(arguments, &formatter, &streams)?;
     let asked = input::asked(arguments, indexes, &streams)?;
+    input::tell_no_ids(arguments, &streams);
     if let Some(path) = &arguments.sheet {
         return answers::write_sheet(path, &formatter, arguments.what, &asked);
     }

@@ -48,6 +48,12 @@ impl Failure {
     }
 }
 
+/// Says of a file, on standard error, what is no failure.
+pub fn remark(path: &Path, what: &str) {
+    // where standard error is closed, nobody is there to be told
+    let _ = writeln!(io::stderr(), "yokberd: {}: {what}", path.display());
+}
+
 /// A number with its thousands apart: 16,777,216.
 pub fn grouped(number: usize) -> String {
     let digits = number.to_string();
