@@ -133,9 +133,9 @@ int main(int argc, char **argv) {
     }
     struct bytes types = read_file(argv[1]), ids = read_file(argv[2]);
     struct checked checked = check(types, ids);
-    int good = ids.len >= HEADER;
-    /* bytes 8 and 12 of the header have the first index and the one behind the last */
-    for (uint32_t index = good ? word(ids.at + 8) : 0; good && index < word(ids.at + 12); index++)
+    /* bytes 8 and 12 of the header have the first index and the one behind the last; no bytes are no ids, and any index is missing then */
+    int whole = ids.len >= HEADER, good = whole || ids.len == 0;
+    for (uint32_t index = whole ? word(ids.at + 8) : 0x1001, end = whole ? word(ids.at + 12) : 0x1002; good && index < end; index++)
         good = print_id(types, ids, checked, index);
     good = good && print_function(types, "advance", 0x1001) && print_type(types, 0x640) && print_sheet(types, ids);
     free(types.at);

@@ -47,7 +47,7 @@ static struct bytes read_file(const char *path) {
     return file;
 }
 
-/* A stream: its length first, then its bytes. */
+/* A stream: its length first, then its bytes. A program that was linked without an id stream has no ids. */
 static struct bytes read_stream(struct bytes file, uint32_t number) {
     uint8_t none = 0;
     size_t at, len;
@@ -58,6 +58,8 @@ static struct bytes read_stream(struct bytes file, uint32_t number) {
         stream.at = room_for(at);
         said = yokberd_read_stream(file.at, file.len, number, stream.at, stream.len, &at, &len);
     }
+    if (said == YOKBERD_CONTAINER_NO_STREAM && number == YOKBERD_IDS_STREAM)
+        said = YOKBERD_CONTAINER_READ;
     if (said != YOKBERD_CONTAINER_READ || len != stream.len) {
         fprintf(stderr, "pdb: stream %u: %s (%zu)\n", (unsigned)number, yokberd_container_text(said), at);
         exit(STATUS_UNREAD);
@@ -127,10 +129,10 @@ static int print_batch(struct bytes types, struct bytes ids, struct checked chec
     return 1;
 }
 
-/* Every index of the id stream: bytes 8 and 12 of its header have the first one and the one behind the last. */
+/* Every index of the id stream: bytes 8 and 12 of its header have the first one and the one behind the last. With no bytes there is none. */
 static int print_ids(struct bytes types, struct bytes ids) {
     if (ids.len < HEADER)
-        return 0;
+        return ids.len == 0;
     struct checked checked = check(types, ids);
     uint32_t first = word(ids.at + 8), count = word(ids.at + 12) - first;
     uint32_t *indexes = room_for(count * sizeof *indexes);

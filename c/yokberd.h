@@ -38,9 +38,9 @@ extern "C" {
 #endif
 
 #define YOKBERD_VERSION_MAJOR 0
-#define YOKBERD_VERSION_MINOR 2
+#define YOKBERD_VERSION_MINOR 3
 #define YOKBERD_VERSION_PATCH 0
-#define YOKBERD_VERSION "0.2.0"
+#define YOKBERD_VERSION "0.3.0"
 
 /* Flags, to be added up. Another bit is refused: YOKBERD_UNKNOWN_FLAGS. */
 #define YOKBERD_NO_FUNCTION_RETURN 0x01u        /* no result before the function's name */
@@ -59,7 +59,7 @@ enum yokberd_number {
     YOKBERD_ACCEPTED = 0,                                        /* 0 */
     YOKBERD_UNKNOWN_FLAGS = 1,                                   /* the flags, one of whose bits is no flag */
     YOKBERD_POINTER_SIZE = 2,                                    /* the pointer size, which is not 4, 8 or 16 */
-    YOKBERD_HEADER = 3,                                          /* 0 types, 1 ids: the stream's header is broken, or it has over 16,777,216 bytes */
+    YOKBERD_HEADER = 3,                                          /* 0 types, 1 ids: its header is broken, or it has over 16,777,216 bytes; ids may have none */
     YOKBERD_TILING = 4,                                          /* 0 types, 1 ids: the records do not fill the bytes that the header names */
     YOKBERD_MALFORMED = 5,                                       /* the index of a malformed record that is needed */
     YOKBERD_CROSS_MODULE = 6,                                    /* an index with bit 31 set, which is one of another module */
@@ -81,7 +81,7 @@ static inline const char *yokberd_refusal_text(uint32_t number) {
     case YOKBERD_ACCEPTED: return "accepted";
     case YOKBERD_UNKNOWN_FLAGS: return "the flags have a bit that is no flag";
     case YOKBERD_POINTER_SIZE: return "the pointer size is not 4, 8 or 16";
-    case YOKBERD_HEADER: return "the header of a stream is broken, or the stream is too long";
+    case YOKBERD_HEADER: return "the header of a stream is broken, or the stream is too long; only an id stream may have no bytes";
     case YOKBERD_TILING: return "the records of a stream do not fill the bytes that its header names";
     case YOKBERD_MALFORMED: return "a record that is needed is malformed";
     case YOKBERD_CROSS_MODULE: return "an index is one of another module";
@@ -150,6 +150,9 @@ static inline const char *yokberd_container_text(uint32_t number) {
  * an out_len of 0 tells the length to lend: YOKBERD_CONTAINER_NO_ROOM, in *at. A file can name one block many times, and so a length of up to 4 GiB, of
  * which the other calls take no more than 16,777,216 bytes: see to it where files come from elsewhere.
  *
+ * The file of a program that was linked without an id stream has none, YOKBERD_CONTAINER_NO_STREAM, or one of no bytes. Either way there are no ids: go on with
+ * an ids_len of 0.
+ *
  * Takes a pass over the directory and the stream.
  */
 #define YOKBERD_TYPES_STREAM 2
@@ -158,7 +161,8 @@ uint32_t yokberd_read_stream(const uint8_t *file, size_t file_len, uint32_t stre
 
 /* The text of a function, an id or a type.
  *
- *   types, ids      the whole type stream and id stream of a .pdb (streams 2 and 4)
+ *   types, ids      the whole type stream and id stream of a .pdb (streams 2 and 4). An ids_len of 0 says that there are no ids, as in a program that was
+ *                   linked without an id stream: each id is then written as missing, `<missing type 0x1001>`, where bit 31 is not set
  *   out             the buffer for the text
  *   flags           a sum of the flags above
  *   pointer_size    of the program's machine: 4, 8 or 16
@@ -190,7 +194,7 @@ uint32_t yokberd_get_type_size(const uint8_t *types, size_t types_len, uint32_t 
  *
  * yokberd_check_streams checks both streams in one pass over their records, and notes in checked what the four calls below it, the two batches over checked
  * streams and yokberd_checked_print_sheet go by: the bounds of both streams, and the places of records from which a look-up starts. Where a program has no
- * ids, lend no bytes of them.
+ * ids, lend no bytes of them, here and to the calls.
  *
  *   stride          how many records apart the noted places are: 8 serves best. 0: as near as there are numbers for
  *   checked         the numbers to fill: YOKBERD_CHECKED at least, and one for each place

@@ -1,9 +1,9 @@
 #!/bin/sh
 # Compiles c/example.c against c/yokberd.h and the library, runs it on a shipped pair of streams, and compares what it prints: the ids with the lines of
-# crates/test_vectors/stdout, which a reading of document 01 in Python made, the rest with lines worked out by hand. Then c/pdb.c, which names the ids of a .pdb
-# file in batches, on the same pair inside such a file, which tools/msf.py makes. Then c/checked.c on all shipped pairs and damaged copies: calls over streams
-# checked once against the plain ones, and over any numbers. All once more under a sanitizer, and, where it is installed, under valgrind; and c/pdb.c
-# once more as yokberd.pc says that it is built.
+# crates/test_vectors/stdout, which a reading of document 01 in Python made, the rest with lines worked out by hand; and once more with no ids. Then c/pdb.c,
+# which names the ids of a .pdb file in batches, on the same pair inside such a file, which tools/msf.py makes, and on files without ids. Then c/checked.c on
+# all shipped pairs and damaged copies: calls over streams checked once against the plain ones, and over any numbers. All once more under a sanitizer, and,
+# where it is installed, under valgrind; and c/pdb.c once more as yokberd.pc says that it is built.
 #
 #     tools/staticlib.sh && tools/test-c.sh
 #
@@ -17,7 +17,7 @@ work=$(mktemp -d)
 trap 'rm -rf "$work"' EXIT
 cc=${CC:-cc}
 pair=crates/test_vectors/data/overloads
-pairs=$(for types in crates/test_vectors/data/*-types.bin; do echo "$types" "${types%-types.bin}-ids.bin"; done)
+pairs=$(for types in crates/test_vectors/data/*-types.bin; do echo "$types" "${types%-types.bin}-ids.bin"; done; echo "$pair-types.bin" "$work/none")
 
 # the section of `overloads` with the example's flags, 0x1e
 awk '/^== /{on = $2 == "overloads"; ids = 0; next} !/^0x/{ids = on && $0 == "ids flags 0x1e"; next} ids && $2 == 0 {sub(/ 0 0x0 /, " "); print}' \
@@ -36,14 +36,35 @@ type 0x640 float*, 8 bytes
 4 16 0xff
 END
 
+# over no ids, by document 02, Note 1
+: >"$work/none"
+cat >"$work/expected-none" <<'END'
+0x1001 <missing type 0x1001>
+function 0x1001 void advance(float)
+type 0x640 float*, 8 bytes
+1 0 0x0 <missing type 0x1001>
+2 0 0x0 4
+3 0 0x0 int*
+4 16 0xff
+END
+for ids in - "$work/none"; do
+    PYTHONDONTWRITEBYTECODE=1 python3 tools/msf.py make "$work/no-ids-$(basename "$ids").pdb" 512 - - "$pair-types.bin" - "$ids"
+done
+
 compare() {
     "$@" "$pair-types.bin" "$pair-ids.bin" >"$work/printed"
     cmp "$work/printed" "$work/expected"
+    "$@" "$pair-types.bin" "$work/none" >"$work/printed"
+    cmp "$work/printed" "$work/expected-none"
 }
 
 compare_pdb() {
     "$@" "$work/overloads.pdb" >"$work/printed"
     cmp "$work/printed" "$work/expected-pdb"
+    for file in "$work"/no-ids-*.pdb; do
+        "$@" "$file" >"$work/printed"
+        cmp "$work/printed" "$work/none"
+    done
 }
 
 # the header's numbers are those of the library
