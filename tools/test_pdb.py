@@ -372,8 +372,6 @@ def damaged_files(folder, path):
         (put(folder, "map.pdb", patched(data, 52, blocks)),
          "it is damaged: the block that lists the directory's blocks, at byte 52, is outside the file" + AGAIN),
         (laid("no-types.pdb", *streams[:2], None), "it has no type stream; build it with debug information (clang -g -gcodeview, or cl /Zi)"),
-        (put(folder, "no-ids.pdb", msf.make(streams[:4], 512)),
-         "it has no id stream, as files of old linkers have none; ask for types, sizes or functions, or link it with a newer linker"),
         (laid("long.pdb", *streams[:2], too_long(streams[2])), "its type stream " + TOO_LONG),
         (laid("header.pdb", *streams[:2], patched(streams[2], 4, 57)), "it is damaged: the header of the type stream is broken" + AGAIN),
         (laid("tiling.pdb", *streams[:4], patched(streams[4], 16, msf.u32(streams[4], 16) - 4)),
@@ -386,6 +384,7 @@ def wrong_streams(folder, path):
     data = msf.load(path)
     types, ids = put(folder, "t.bin", msf.read(data, 2)), put(folder, "i.bin", msf.read(data, 4))
     cut, long = put(folder, "cut.bin", msf.load(types)[:800]), put(folder, "long.bin", too_long(msf.load(types)))
+    byte, none = put(folder, "byte.bin", b"\0"), put(folder, "none.bin", b"")
     export = "export it again: llvm-pdbutil export --stream={} --out=FILE APP.pdb"
     return [
         (ids, types, ids, f"the streams are exchanged: it holds ids; give --types {types} --ids {ids}"),
@@ -393,7 +392,9 @@ def wrong_streams(folder, path):
         (ids, ids, ids, "it is an id stream; give the type stream, stream 2 of the .pdb, by --types"),
         (path, ids, path, "it is a .pdb file and no exported stream; name it without --types and --ids"),
         (cut, ids, cut, "it is no whole type stream: the header of the type stream is broken; " + export.format(2)),
-        (types, os.devnull, os.devnull, "it is no whole id stream: the header of the id stream is broken; " + export.format(4)),
+        (ids, none, ids, "it is an id stream; give the type stream, stream 2 of the .pdb, by --types"),
+        (none, ids, none, "it is no whole type stream: the header of the type stream is broken; " + export.format(2)),
+        (types, byte, byte, "it is no whole id stream: the header of the id stream is broken; " + export.format(4)),
         (long, ids, long, "the type stream " + TOO_LONG),
     ]
 
@@ -450,6 +451,24 @@ def messages(yokberd, folder, path):
     return len(cases) + 1
 
 
+def without_ids(yokberd, folder, path):
+    """Document 02, Note 1: where there is no id stream, or one of no bytes, each id is missing; where all ids are asked for, it is said that there are none."""
+    data = msf.load(path)
+    streams = [msf.read(data, number) for number in range(5)]
+    types, none = put(folder, "t.bin", streams[2]), put(folder, "none.bin", b"")
+    files = [put(folder, name, msf.make(laid, 512))
+             for name, laid in (("no-ids.pdb", streams[:4]), ("absent-ids.pdb", [*streams[:4], None]), ("empty-ids.pdb", [*streams[:4], b""]))]
+    for words, file in [((file,), file) for file in files] + [(("--types", types, "--ids", none), none)]:
+        said = f"yokberd: {file}: it has no ids, as files of old linkers have none; ask for types, sizes or functions, or link it with a newer linker\n"
+        for all_of_them in ((), ("--all",)):
+            done = run(yokberd, "ids", *words, *all_of_them)
+            same((done.returncode, done.stdout, done.stderr.decode()), (0, b"", said), f"{words}")
+        lines = b"0x1001  <missing type 0x1001>\n0x0  <missing type 0x0>\n0x80001001  refusal 6: index 0x80001001 is one of another module\n"
+        done = run(yokberd, "ids", *words, "--index", "0x1001,0,0x80001001")
+        same((done.returncode, done.stdout, done.stderr), (0, lines, b""), f"{words}")
+    return len(files) + 1
+
+
 def spoiled(random, data):
     damaged = bytearray(data)
     for at in random.choices(range(len(data)), k=random.choice((1, 20, 400))):
@@ -458,14 +477,15 @@ def spoiled(random, data):
 
 
 def any_damage(yokberd, folder, path, rounds):
-    """Bytes changed anywhere: answers and status 0, or one line and status 1."""
+    """Bytes changed anywhere: answers and status 0, or one line and status 1; where the ids are gone, that line and status 0."""
     random, data, statuses = Random(0x7d), msf.load(path), collections.Counter()
     for _ in range(rounds):
         file = put(folder, "any.pdb", spoiled(random, data))
         words = random.choice((("ids", file, "--all"), ("types", file), ("sizes", file), ("functions", file, "--index=0x1005=f")))
         done = run(yokberd, *words)
         said = (done.returncode, done.stderr.count(b"\n"), done.stdout == b"" or done.returncode == 0, done.stderr.startswith(b"yokberd: " + file.encode()))
-        same(said in ((0, 0, True, False), (1, 1, True, True)), True, f"damage: {done.stderr} and status {done.returncode}")
+        gone = done.returncode == 0 and b"it has no ids" in done.stderr and done.stdout == b""
+        same(gone or said in ((0, 0, True, False), (1, 1, True, True)), True, f"damage: {done.stderr} and status {done.returncode}")
         statuses[done.returncode] += 1
     same(sorted(statuses), [0, 1], "statuses over any damage")
     return rounds
@@ -556,6 +576,7 @@ def test(folder, yokberd, *drivers):
     sheets(yokberd, folder, small[0])
     print(f"test-pdb: {calls} names, types and sizes of the command line as tools/reading.py has them, in every form")
     print(f"test-pdb: {messages(yokberd, folder, small[0])} messages, each with its status")
+    print(f"test-pdb: {without_ids(yokberd, folder, small[0])} ways to have no ids: marks, or a line that says so")
     print(f"test-pdb: {any_damage(yokberd, folder, small[0], 400)} files with any damage: answers, or one message")
     partial(yokberd, folder)
     closed_pipe(yokberd, large)
