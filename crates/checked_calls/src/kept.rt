@@ -15,7 +15,7 @@ use streams::refusal::StreamKind;
 use streams::stream::StreamCheck;
 
 // The ids where a call is not for an id.
-fn no_ids() -> NotedCheck {
+fn unchecked_ids() -> NotedCheck {
     NotedCheck {
         check: StreamCheck::Refused(Refusal::Header(StreamKind::Ids)),
         spacing: strided_by(1, 0),
@@ -39,7 +39,7 @@ pub fn keep_types(types: &[u8], places: &mut [u32]) -> [u32; 19]
 {
     let split = places.len() as u32;
     let a = check_stream(types, StreamKind::Types, places);
-    bounds_of(a, no_ids(), split)
+    bounds_of(a, unchecked_ids(), split)
 }
 
 // What is kept of both checks; the first `split` places are the types'.

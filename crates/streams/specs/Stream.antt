@@ -57,12 +57,12 @@ tiled n s = passed n s 56 (λ at. eqb at (length s)) false
 abbrev pub none : Stream
 none = record { first = 0; end = 0; stop = 0 }
 
--- "An id stream of length 0 now means no ids at all .. The type stream keeps its header." (document 02, Note 1)
+-- Whether a stream is one of no ids. "An id stream of length 0 now means no ids at all .. The type stream keeps its header." (document 02, Note 1)
 unfoldable pub noIds : StreamKind → List ℕ → Bool
 noIds stream.Types s = false
 noIds stream.Ids s = eqb (length s) 0
 
--- The check of a stream with a broken header: 3. "Refusal 3 is no longer given for an id stream of length 0." (Note 1)
+-- The check of a stream with a broken header: 3, but "Refusal 3 is no longer given for an id stream of length 0" (Note 1).
 unfoldable pub headless : StreamKind → List ℕ → StreamCheck
 headless which s = pick (noIds which s) (Good none) (Refused (Header which))
 

@@ -12,8 +12,8 @@ cast-split c = omega (arith, c .before .before .pre)
 check-stream-requires : tie.Need-check-stream-requires
 check-stream-requires c κs = search needs
 
-no-ids-requires : tie.Need-no-ids-requires
-no-ids-requires c κs = search needs
+unchecked-ids-requires : tie.Need-unchecked-ids-requires
+unchecked-ids-requires c κs = search needs
 
 bounds-of-requires : tie.Need-bounds-of-requires
 bounds-of-requires c κs = search needs
@@ -30,7 +30,7 @@ keep-types-spec =
     (tie.spec
     cast-split
     check-stream-requires
-    no-ids-requires
+    unchecked-ids-requires
     bounds-of-requires
     same-length
     returns)
