@@ -1,4 +1,5 @@
--- Functions and ids (document 01, "Writing rules": "Names are copied byte for byte", "A string list writes its entries as types").
+-- Functions and ids (document 01, "Writing rules": "Names are copied byte for byte", "A string list writes its entries as types"). The names of ids are those
+-- of the table, as they are shown.
 use Prim.Native.Nat.{ℕ}
 use mathlib.Core.Bool.{Bool, false}
 use mathlib.Core.List.{List, []}

@@ -5,6 +5,7 @@ use mathlib.Core.List.{List, [], _∷_}
 use lib.ListN.{length, take, drop}
 use Rattle.wire.specs.Field.{number}
 use Rattle.wire.specs.declared.name.Name.{Name}
+use Rattle.utf8.specs.Utf8.{shown}
 use Rattle.streams.specs.declared.refusal.Refusal.{Refusal}
 use Rattle.streams.specs.declared.stream.Stream.{Stream}
 use Rattle.codeview.specs.Read.{readType, readId}
@@ -35,7 +36,7 @@ pub record Method : Type 0 where
   pub constructor : Bool
   pub list : ℕ
 
--- A class or union: whether it is only a forward reference, its size, its name, and the name by which a forward reference is matched.
+-- A class or union: whether it is only a forward reference, its size, its name as it is shown, and the name by which a forward reference is matched.
 pub record Layout : Type 0 where
   pub forward : Bool
   pub size : ℕ
@@ -86,11 +87,15 @@ pub record Table : Type 0 where
 unfoldable pub nameAt : List ℕ → Name → List ℕ
 nameAt s n = take (n .len) (drop (n .start) s)
 
+-- "A name from a record, written into a text, has each maximal ill-formed part replaced" (document 02, Note 2).
+unfoldable pub shownAt : List ℕ → Name → List ℕ
+shownAt s n = shown (nameAt s n)
+
 unfoldable pub numbersAt : List ℕ → ℕ → ℕ → List ℕ
 numbersAt s at zero = []
 numbersAt s at (suc n) = number 4 s at ∷ numbersAt s (at + 4) n
 
--- "Unique name first": the name by which a record is matched.
+-- "Unique name first": the name by which a record is matched. "Forward references are still matched by raw bytes" (Note 2).
 unfoldable pub matchName : List ℕ → Name → UniqueName → List ℕ
 matchName s n (Given u) = nameAt s u
 matchName s n Absent = nameAt s n
@@ -117,20 +122,20 @@ typeContents s (type.MemberFunction m) =
       list = m .arguments .0;
     })
 typeContents s (type.ArgumentList e) = arguments (numbersAt s (e .start) (e .count))
-typeContents s (type.Enumerate e) = named (enumerate (e .width) (nameAt s (e .name)))
+typeContents s (type.Enumerate e) = named (enumerate (e .width) (shownAt s (e .name)))
 typeContents s (type.Array a) = array (a .element .0) (a .size)
 typeContents s (type.Class c) =
-    named (class (c .kind) (layout (c .forward) (c .size) (nameAt s (c .name)) (matchName s (c .name) (c .unique))))
-typeContents s (type.Union u) = named (union (layout (u .forward) (u .size) (nameAt s (u .name)) (matchName s (u .name) (u .unique))))
-typeContents s (type.Enumeration e) = named (enumeration (e .underlying .0) (nameAt s (e .name)))
+    named (class (c .kind) (layout (c .forward) (c .size) (shownAt s (c .name)) (matchName s (c .name) (c .unique))))
+typeContents s (type.Union u) = named (union (layout (u .forward) (u .size) (shownAt s (u .name)) (matchName s (u .name) (u .unique))))
+typeContents s (type.Enumeration e) = named (enumeration (e .underlying .0) (shownAt s (e .name)))
 typeContents s (type.Unhandled k) = named (kindOnly k)
 
 -- A decoded id record, its places read.
 unfoldable pub idContents : List ℕ → IdData → IdRecord
-idContents s (id.Function f) = function (f .scope .0) (f .function .0) (nameAt s (f .name))
-idContents s (id.MemberFunction m) = memberFunction (m .parent .0) (m .function .0) (nameAt s (m .name))
+idContents s (id.Function f) = function (f .scope .0) (f .function .0) (shownAt s (f .name))
+idContents s (id.MemberFunction m) = memberFunction (m .parent .0) (m .function .0) (shownAt s (m .name))
 idContents s (id.StringList e) = strings (numbersAt s (e .start) (e .count))
-idContents s (id.String t) = string (nameAt s (t .name))
+idContents s (id.String t) = string (shownAt s (t .name))
 idContents s (id.Unhandled k) = idKindOnly k
 
 unfoldable pub typeAsRead : List ℕ → TypeRead → Read Record
