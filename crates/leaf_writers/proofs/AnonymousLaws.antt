@@ -11,7 +11,9 @@ use native.Mathlib.Numerals.{add-one}
 use borrow.Author.Tests.{eq-eqb, ne-eqb, lt-ltb, le-ltb, lt-leb, le-leb, ltb-true, leb-true}
 use Rattle.wire.specs.Field.{pick}
 use Rattle.wire.specs.Text.{bytes}
+use Rattle.utf8.specs.Utf8.{shown}
 use Rattle.rules.specs.Text.{hexDigit, hexBelow, hexNumber, plusNumber, sameBytes, isAnonymousNamespace, stringText}
+use Rattle.rules.proofs.Shown.{shown-anonymous}
 use Rattle.pen.specs.Page.{writing}
 
 -- A byte and a range.
@@ -213,11 +215,11 @@ anonymous-whole (a ∷ b ∷ []) h e f g k = absurd (omega arith)
 anonymous-whole (a ∷ b ∷ c ∷ []) h e f g k = absurd (omega arith)
 anonymous-whole (a ∷ b ∷ c ∷ d ∷ s) h e f g k = simp (eq-eqb a 63 e, eq-eqb b 65 f, eq-eqb c 48 g, eq-eqb d 120 k) (ap plusNumber (take-all (length (a ∷ b ∷ c ∷ d ∷ s) - 4) s (omega arith)))
 
--- What is written of a string.
-pub string-anonymous : (s : List ℕ) (r : Bool) → r ≡ isAnonymousNamespace s → r ≡ true → writing (bytes "`anonymous namespace'") ≡ writing (stringText s)
+-- What is written of a string, by its bytes.
+pub string-anonymous : (s : List ℕ) (r : Bool) → r ≡ isAnonymousNamespace s → r ≡ true → writing (bytes "`anonymous namespace'") ≡ writing (stringText (shown s))
 unfolding stringText
-string-anonymous s r e h = simp (sym e ∙ h)
+string-anonymous s r e h = rw (shown-anonymous s ∙ sym e ∙ h) refl
 
-pub string-itself : (s : List ℕ) (r : Bool) → r ≡ isAnonymousNamespace s → r ≡ false → writing s ≡ writing (stringText s)
+pub string-itself : (s : List ℕ) (r : Bool) → r ≡ isAnonymousNamespace s → r ≡ false → writing (shown s) ≡ writing (stringText (shown s))
 unfolding stringText
-string-itself s r e h = simp (sym e ∙ h)
+string-itself s r e h = rw (shown-anonymous s ∙ sym e ∙ h) refl

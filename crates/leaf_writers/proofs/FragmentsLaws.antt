@@ -20,7 +20,8 @@ use Rattle.codeview.specs.declared.record.TypeData.the-variants as type
 use Rattle.codeview.proofs.record.TypeData.{the-type}
 use Rattle.codeview.proofs.Tags.{by-tag}
 use Rattle.rules.specs.Flags.{Settings}
-use Rattle.rules.specs.Record.{nameAt, typeContents}
+use Rattle.utf8.specs.Utf8.{shown}
+use Rattle.rules.specs.Record.{nameAt, shownAt, typeContents}
 use Rattle.rules.specs.Types.{comma, namedText}
 use Rattle.rules.specs.Text.{worded, classText, unhandledType, Level, levels}
 use Rattle.pen.specs.Page.{writing}
@@ -70,20 +71,20 @@ static-by c off this e h = rw (sym e ∙ h) (always (eqb this 0))
 
 -- The records that a text names, by kind.
 module _ (c : Settings) (s : List ℕ) (t : TypeData) where
-  pub record-class : (x : ClassType) (n : List ℕ) → t ≡ type.Class x → n ≡ nameAt s (x .name) → writing (classText c (x .kind) n) ≡ writing (recordText c s t)
-  unfolding recordText typeContents namedText
+  pub record-class : (x : ClassType) (n : List ℕ) → t ≡ type.Class x → n ≡ nameAt s (x .name) → writing (classText c (x .kind) (shown n)) ≡ writing (recordText c s t)
+  unfolding recordText typeContents namedText shownAt
   record-class x n e h = rw (e, h) refl
 
-  pub record-union : (x : UnionType) (n : List ℕ) → t ≡ type.Union x → n ≡ nameAt s (x .name) → writing (behindWord c (bytes "union") n) ≡ writing (recordText c s t)
-  unfolding recordText typeContents namedText behindWord worded
+  pub record-union : (x : UnionType) (n : List ℕ) → t ≡ type.Union x → n ≡ nameAt s (x .name) → writing (behindWord c (bytes "union") (shown n)) ≡ writing (recordText c s t)
+  unfolding recordText typeContents namedText shownAt behindWord worded
   record-union x n e h = rw (e, h) refl
 
-  pub record-enum : (x : EnumerationType) (n : List ℕ) → t ≡ type.Enumeration x → n ≡ nameAt s (x .name) → writing (behindWord c (bytes "enum") n) ≡ writing (recordText c s t)
-  unfolding recordText typeContents namedText behindWord worded
+  pub record-enum : (x : EnumerationType) (n : List ℕ) → t ≡ type.Enumeration x → n ≡ nameAt s (x .name) → writing (behindWord c (bytes "enum") (shown n)) ≡ writing (recordText c s t)
+  unfolding recordText typeContents namedText shownAt behindWord worded
   record-enum x n e h = rw (e, h) refl
 
-  pub record-enumerate : (x : EnumerateType) (n : List ℕ) → t ≡ type.Enumerate x → n ≡ nameAt s (x .name) → writing (behindWord c (bytes "enum class") n) ≡ writing (recordText c s t)
-  unfolding recordText typeContents namedText behindWord worded
+  pub record-enumerate : (x : EnumerateType) (n : List ℕ) → t ≡ type.Enumerate x → n ≡ nameAt s (x .name) → writing (behindWord c (bytes "enum class") (shown n)) ≡ writing (recordText c s t)
+  unfolding recordText typeContents namedText shownAt behindWord worded
   record-enumerate x n e h = rw (e, h) refl
 
   pub record-unhandled : (k : ℕ) → t ≡ type.Unhandled k → writing (unhandledType k) ≡ writing (recordText c s t)

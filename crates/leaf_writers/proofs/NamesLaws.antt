@@ -7,8 +7,7 @@ use lib.ListN.{length, take, drop, length-drop, drop-of-length-le}
 use lib.Seq.{take-all}
 use lib.Dec.{eqb, leb, ltb}
 use native.Mathlib.Omega.{arith}
-use native.Mathlib.Decide.{decLt}
-use borrow.Author.Tests.{eq-eqb, ne-eqb, lt-ltb, le-ltb, lt-leb, le-leb}
+use borrow.Author.Tests.{eq-eqb, ne-eqb, lt-ltb, le-ltb, lt-leb, le-leb, leb-true}
 use Rattle.wire.specs.Field.{pick}
 use Rattle.wire.specs.Text.{bytes}
 use Rattle.wire.specs.declared.name.Name.{Name}
@@ -19,9 +18,15 @@ use Rattle.primitives.specs.declared.PrimitiveKind.{PrimitiveKind}
 use Rattle.primitives.specs.declared.KindName.{KindName}
 use Rattle.primitives.proofs.Table.{map-first}
 use Rattle.interpreter.specs.Trace.{tr, refused, count}
+use Rattle.utf8.specs.Utf8.{replacement, shown}
+use Rattle.utf8.specs.Parts.{partAt, run}
+use Rattle.utf8.specs.declared.Part.{Part}
+use Rattle.utf8.proofs.Shown.{shown-nil, shown-empty}
+use Rattle.utf8.proofs.Laws.{part-inside, run-within, run-kept, run-behind}
 use Rattle.rules.specs.Text.{digit, functionName, primitiveName, missingMark, unimplementedMark}
 use Rattle.rules.specs.Record.{nameAt}
-use Rattle.pen.specs.Page.{writing}
+use Rattle.pen.specs.Page.{Page, PageRead, readPage, ink, Wrote, writing}
+use Rattle.pen.proofs.Laws.{ink-append, ink-nil, run-say}
 use Rattle.leaf_writers.specs.Marks.{markTrace}
 
 pub digit-small : (n : ℕ) → n < 10 → 48 + n ≡ digit n
@@ -66,6 +71,52 @@ unfolding functionName
 name-itself [] h = absurd (h refl)
 name-itself (b ∷ s) h = refl
 
+-- A function's name that stands in a record.
+empty-list : (s : List ℕ) → length s ≡ 0 → s ≡ []
+empty-list [] h = refl
+empty-list (b ∷ s) h = absurd (omega arith)
+
+pub shown-omitted : (s : List ℕ) → length s ≡ 0 → writing (bytes "<name omitted>") ≡ writing (functionName (shown s))
+shown-omitted s h = name-omitted (shown s) (rw (empty-list s h, shown-nil) refl)
+
+pub shown-itself : (s : List ℕ) → (length s ≡ 0 → ⊥) → writing (shown s) ≡ writing (functionName (shown s))
+shown-itself s h = name-itself (shown s) (λ e. h (rw (shown-empty s .0 (empty-list (shown s) e)) refl))
+
+-- A record's name, run by run: what is left to be shown leads to the page that all of it leads to.
+abbrev pub Leads : PageRead → List ℕ → PageRead → ℕ → Type 0
+Leads g₀ s g at = ink g (shown (drop at s)) ≡ ink g₀ (shown s)
+
+module _ (g₀ : PageRead) (s : List ℕ) (g h : Page) (at end : ℕ) (l : Leads g₀ s (readPage g) at) (e : end ≡ at + run (drop at s))
+    (w : Wrote g (writing (take (end - at) (drop at s))) h) where
+  -- The page behind a run.
+  run-page : ink (readPage h) (shown (drop end s)) ≡ ink g₀ (shown s)
+  run-page =
+      ap (λ (k : PageRead). ink k (shown (drop end s))) (w .is ∙ run-say (readPage g) (take (end - at) (drop at s)))
+      ∙ ink-append (take (end - at) (drop at s)) (readPage g) (shown (drop end s))
+      ∙ ap (ink (readPage g)) (sym (run-kept s at end e))
+      ∙ l
+
+  pub run-last : end ≡ length s → readPage h ≡ ink g₀ (shown s)
+  run-last f =
+      let b : length s ≤ end = omega arith in
+      let k : drop end s ≡ [] = drop-of-length-le s b in
+      sym (ink-nil (readPage h)) ∙ ap (ink (readPage h)) (sym (ap shown k ∙ shown-nil)) ∙ run-page
+
+  pub run-next : (k : Page) (r : Part) → (end ≡ length s → ⊥) → at ≤ length s → r ≡ partAt s end → Wrote h (writing (0xEF ∷ 0xBF ∷ 0xBD ∷ [])) k → Leads g₀ s (readPage k) (end + r .len)
+  run-next k r n m f v =
+      let b : end < length s = omega (arith, run-within s at end e m) in
+      ap (λ (x : PageRead). ink x (shown (drop (end + r .len) s))) (v .is ∙ run-say (readPage h) replacement)
+      ∙ ink-append replacement (readPage h) (shown (drop (end + r .len) s))
+      ∙ ap (ink (readPage h)) (rw f (sym (run-behind s at end e b)))
+      ∙ run-page
+
+pub run-over : (g₀ : PageRead) (s : List ℕ) (g : PageRead) (at : ℕ) → Leads g₀ s g at → length s ≤ at → g ≡ ink g₀ (shown s)
+run-over g₀ s g at l h = sym (ink-nil g) ∙ ap (ink g) (sym (ap shown (drop-of-length-le s h) ∙ shown-nil)) ∙ l
+
+-- The part behind a run lies inside.
+pub part-behind : (s : List ℕ) (at end : ℕ) (r : Part) → end ≡ at + run (drop at s) → at ≤ length s → (end ≡ length s → ⊥) → r ≡ partAt s end → (0 < r .len) × (end + r .len ≤ length s)
+part-behind s at end r e h n f = part-inside s end r f (omega (arith, run-within s at end e h))
+
 -- The name of a primitive's kind.
 pub kind-name : (code : ℕ) (r : KindName) → r ≡ firstOf code primitives named (named empty) → take (r .len) (r .bytes) ≡ primitiveName code
 unfolding primitiveName
@@ -79,13 +130,6 @@ short : List PrimitiveKind → Bool
 short [] = true
 short (k ∷ l) = leb (k .len) (length (k .name)) && short l
 
-shown : (a b : ℕ) → leb a b ≡ true → a ≤ b
-shown a b h = by (decLt b a)
-  where
-    by : Dec (b < a) → a ≤ b
-    by (yes d) = absurd (let z : true ≡ false = sym h ∙ lt-leb a b d in let y : _≡_ {A = ℕ} 0 1 = cc in omega arith)
-    by (no d) = omega arith
-
 first-short : (code : ℕ) (l : List PrimitiveKind) → short l ≡ true → Short (firstOf code l named (named empty))
 unfolding firstOf short
 first-short code [] h = omega arith
@@ -93,7 +137,7 @@ first-short code (k ∷ l) h = by (eqb (k .code) code) (leb (k .len) (length (k 
   where
     by : (b c : Bool) → leb (k .len) (length (k .name)) ≡ c → (c && short l) ≡ true → (short l ≡ true → Short (firstOf code l named (named empty)))
         → Short (pick b (named k) (firstOf code l named (named empty)))
-    by true true e g rest = shown (k .len) (length (k .name)) e
+    by true true e g rest = leb-true (k .len) (length (k .name)) e
     by false true e g rest = rest g
     by true false e g rest = absurd (let z : _≡_ {A = ℕ} 0 1 = cc in omega arith)
     by false false e g rest = absurd (let z : _≡_ {A = ℕ} 0 1 = cc in omega arith)

@@ -1,11 +1,13 @@
 // Primitives, and what has a name behind the word for its kind.
 ghost use mathlib.Core.Path.{_≡_};
+ghost use Rattle.utf8.specs.Utf8.{shown};
 ghost use Rattle.rules.specs.Text.{primitiveText, classText};
 ghost use Rattle.pen.specs.Page.{page, Wrote, writing};
 ghost use Rattle.context.specs.Context.{settingsOf};
 ghost use Rattle.leaf_writers.specs.Signs.{behindWord, classWord};
 use crate::fragments::both;
 use crate::names::emit_kind;
+use crate::names::emit_shown;
 use crate::settings::name_only;
 use crate::settings::space_pointer;
 use crate::settings::text_if;
@@ -34,16 +36,16 @@ pub fn emit_primitive(
     pen::text(out, t, b"*")
 }
 
-// A name behind the word for its kind, or alone.
+// A record's name behind the word for its kind, or alone.
 pub fn emit_named(out: &mut [u8], p: Pen, call: Call, word: &[u8], name: &[u8]) -> Pen
-    ensures { λ r. ⌜ Wrote (page (now (out .entry)) p) (writing (behindWord (settingsOf call) (now (word .entry)) (now (name .entry)))) (page (now (out .exit)) r) ⌝ }
+    ensures { λ r. ⌜ Wrote (page (now (out .entry)) p) (writing (behindWord (settingsOf call) (now (word .entry)) (shown (now (name .entry))))) (page (now (out .exit)) r) ⌝ }
 {
     if name_only(call) {
-        return pen::text(out, p, name);
+        return emit_shown(out, p, name);
     }
     let q = pen::text(out, p, word);
     let r = pen::text(out, q, b" ");
-    pen::text(out, r, name)
+    emit_shown(out, r, name)
 }
 
 // The word for a kind of class and a space, unless names stand alone.
@@ -61,8 +63,8 @@ fn emit_word(out: &mut [u8], p: Pen, call: Call, kind: ClassKind) -> Pen
 }
 
 pub fn emit_class(out: &mut [u8], p: Pen, call: Call, kind: ClassKind, name: &[u8]) -> Pen
-    ensures { λ r. ⌜ Wrote (page (now (out .entry)) p) (writing (classText (settingsOf call) kind (now (name .entry)))) (page (now (out .exit)) r) ⌝ }
+    ensures { λ r. ⌜ Wrote (page (now (out .entry)) p) (writing (classText (settingsOf call) kind (shown (now (name .entry))))) (page (now (out .exit)) r) ⌝ }
 {
     let q = emit_word(out, p, call, kind);
-    pen::text(out, q, name)
+    emit_shown(out, q, name)
 }

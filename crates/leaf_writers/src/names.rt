@@ -1,5 +1,6 @@
-// Names: those that stand in a stream, and those that are given.
+// Names: those that stand in a stream, which are written as they are shown, and those that are given.
 ghost use mathlib.Core.Path.{_≡_};
+ghost use Rattle.utf8.specs.Utf8.{shown};
 ghost use Rattle.rules.specs.Text.{functionName, primitiveName};
 ghost use Rattle.rules.specs.Record.{nameAt};
 ghost use Rattle.pen.specs.Page.{page, Wrote, writing};
@@ -22,7 +23,36 @@ pub fn name_of<'a>(s: &'a [u8], n: Name) -> &'a [u8]
     &s[start..start + len]
 }
 
-// A function's name.
+// A name of a record: each run of well-formed bytes at once, and U+FFFD for each part between them.
+pub fn emit_shown(out: &mut [u8], p: Pen, name: &[u8]) -> Pen
+    ensures { λ r. ⌜ Wrote (page (now (out .entry)) p) (writing (shown (now (name .entry)))) (page (now (out .exit)) r) ⌝ }
+{
+    let len = name.len();
+    let mut q = p;
+    let mut at = 0;
+    while at < len {
+        let end = utf8::run_end(name, at);
+        q = pen::text(out, q, &name[at..end]);
+        if end == len {
+            return q;
+        }
+        q = pen::text(out, q, b"\xef\xbf\xbd");
+        at = end + utf8::part_at(name, end).len;
+    }
+    q
+}
+
+// A function's name that stands in a record.
+pub fn emit_shown_str(out: &mut [u8], p: Pen, name: &[u8]) -> Pen
+    ensures { λ r. ⌜ Wrote (page (now (out .entry)) p) (writing (functionName (shown (now (name .entry))))) (page (now (out .exit)) r) ⌝ }
+{
+    if name.len() == 0 {
+        return pen::text(out, p, b"<name omitted>");
+    }
+    emit_shown(out, p, name)
+}
+
+// A function's name that the caller gives: byte for byte.
 pub fn emit_name_str(out: &mut [u8], p: Pen, name: &[u8]) -> Pen
     ensures { λ r. ⌜ Wrote (page (now (out .entry)) p) (writing (functionName (now (name .entry)))) (page (now (out .exit)) r) ⌝ }
 {

@@ -1,7 +1,9 @@
-// Strings of ids: one that names an anonymous namespace is written as such.
+// Strings of ids: one that names an anonymous namespace is written as such. Its bytes are ASCII, so it is told by the bytes of the record.
 ghost use mathlib.Core.Path.{_≡_};
+ghost use Rattle.utf8.specs.Utf8.{shown};
 ghost use Rattle.rules.specs.Text.{hexDigit, hexBelow, hexNumber, plusNumber, isAnonymousNamespace, stringText};
 ghost use Rattle.pen.specs.Page.{page, Wrote, writing};
+use crate::names::emit_shown;
 use pen::Pen;
 
 // The value of a hexadecimal digit of either case, and 16 for any other byte. (`:`, `G` and `g` follow the digits.)
@@ -94,10 +96,10 @@ pub fn is_anonymous_namespace(s: &[u8]) -> bool
 }
 
 pub fn emit_string(out: &mut [u8], p: Pen, s: &[u8]) -> Pen
-    ensures { λ r. ⌜ Wrote (page (now (out .entry)) p) (writing (stringText (now (s .entry)))) (page (now (out .exit)) r) ⌝ }
+    ensures { λ r. ⌜ Wrote (page (now (out .entry)) p) (writing (stringText (shown (now (s .entry))))) (page (now (out .exit)) r) ⌝ }
 {
     if is_anonymous_namespace(s) {
         return pen::text(out, p, b"`anonymous namespace'");
     }
-    pen::text(out, p, s)
+    emit_shown(out, p, s)
 }

@@ -9,44 +9,44 @@ use Rattle.leaf_writers.proofs.named.emit_named.Tie as tie
 name-only-requires : tie.Need-name-only-requires
 name-only-requires c κs = search needs
 
-text-requires : tie.Need-text-requires
-text-requires c κs = search needs
+emit-shown-requires : tie.Need-emit-shown-requires
+emit-shown-requires c κs = search needs
 
 same-length : tie.Need-same-length
 same-length c = search needs
 
 returns : tie.Need-returns
-returns c = wrote-by (c .before .before .text .ensures) (named-alone _ _ _ _ (c .before .before .before .before .before .name-only .ensures) (c .before .before .before .before .if1 .taken))
+returns c = wrote-by (c .before .before .emit-shown .ensures) (named-alone _ _ _ _ (c .before .before .before .before .before .name-only .ensures) (c .before .before .before .before .if1 .taken))
 
-text-requires-2 : tie.Need-text-requires-2
-text-requires-2 c κs = search needs
+text-requires : tie.Need-text-requires
+text-requires c κs = search needs
 
 slice-aggregate-text : tie.Need-slice-aggregate-text
 slice-aggregate-text c = search needs
 
-text-requires-3 : tie.Need-text-requires-3
-text-requires-3 c κs = search needs
+text-requires-2 : tie.Need-text-requires-2
+text-requires-2 c κs = search needs
 
-text-requires-4 : tie.Need-text-requires-4
-text-requires-4 c κs = search needs
+emit-shown-requires-2 : tie.Need-emit-shown-requires-2
+emit-shown-requires-2 c κs = search needs
 
 same-length-2 : tie.Need-same-length-2
 same-length-2 c = search needs
 
 returns-2 : tie.Need-returns-2
-returns-2 c = wrote-by ((c .before .before .before .before .before .before .before .before .before .before .before .text2 .ensures) ▹ (c .before .before .before .before .before .before .text3 .ensures) ▹ (c .before .before .text4 .ensures)) (named-behind _ _ _ _ (c .before .before .before .before .before .before .before .before .before .before .before .before .before .before .name-only .ensures) (c .before .before .before .before .before .before .before .before .before .before .before .before .before .if1 .left))
+returns-2 c = wrote-by ((c .before .before .before .before .before .before .before .before .before .before .before .text .ensures) ▹ (c .before .before .before .before .before .before .text2 .ensures) ▹ (c .before .before .emit-shown2 .ensures)) (named-behind _ _ _ _ (c .before .before .before .before .before .before .before .before .before .before .before .before .before .before .name-only .ensures) (c .before .before .before .before .before .before .before .before .before .before .before .before .before .if1 .left))
 
 pub emit-named-spec : {M : Type 1} → statement M
 emit-named-spec =
     tie.close
     (tie.spec
     name-only-requires
-    text-requires
+    emit-shown-requires
     same-length
     returns
-    text-requires-2
+    text-requires
     slice-aggregate-text
-    text-requires-3
-    text-requires-4
+    text-requires-2
+    emit-shown-requires-2
     same-length-2
     returns-2)

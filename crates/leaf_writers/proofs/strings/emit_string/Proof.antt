@@ -21,14 +21,14 @@ same-length c = search needs
 returns : tie.Need-returns
 returns c = wrote-by (c .before .before .text .ensures) (string-anonymous _ _ (c .before .before .before .before .before .before .is-anonymous-namespace .ensures) (c .before .before .before .before .before .if1 .taken))
 
-text-requires-2 : tie.Need-text-requires-2
-text-requires-2 c κs = search needs
+emit-shown-requires : tie.Need-emit-shown-requires
+emit-shown-requires c κs = search needs
 
 same-length-2 : tie.Need-same-length-2
 same-length-2 c = search needs
 
 returns-2 : tie.Need-returns-2
-returns-2 c = wrote-by (c .before .before .text2 .ensures) (string-itself _ _ (c .before .before .before .before .before .is-anonymous-namespace .ensures) (c .before .before .before .before .if1 .left))
+returns-2 c = wrote-by (c .before .before .emit-shown .ensures) (string-itself _ _ (c .before .before .before .before .before .is-anonymous-namespace .ensures) (c .before .before .before .before .if1 .left))
 
 pub emit-string-spec : {M : Type 1} → statement M
 emit-string-spec =
@@ -39,6 +39,6 @@ emit-string-spec =
     text-requires
     same-length
     returns
-    text-requires-2
+    emit-shown-requires
     same-length-2
     returns-2)
