@@ -58,6 +58,8 @@ use Rattle.interpreter.specs.Trace.{
 }
 use Rattle.interpreter.specs.Trace as trace
 use Rattle.interpreter.proofs.Laws.{walk-long, walk-fresh}
+use Rattle.wire.specs.declared.name.Name.{Name}
+use Rattle.utf8.specs.Utf8.{shown}
 use Rattle.rules.specs.Flags.{Settings}
 use Rattle.rules.specs.Record.{
   Record,
@@ -75,6 +77,7 @@ use Rattle.rules.specs.Record.{
   idContents,
   idAsRead,
   nameAt,
+  shownAt,
   numbersAt,
 }
 use Rattle.rules.specs.Places.{tableBy, Lent, tableIn, readNear}
@@ -136,15 +139,24 @@ module _ (c : Settings) (t : Table) (h : Held) where
   abbrev ended : List ℕ → List ℕ → ℕ → Rule
   ended before name list = seq (write before) (seq (write (functionName name)) (procedureArguments c list))
 
-  pub end-hidden : (before name : List ℕ) (list : ℕ) (b : Bool) → b ≡ c .noArguments → b ≡ true
-      → writing before ⨾ writing (functionName name) ⨾ writing [] ≡ ruled c t h (ended before name list)
-  unfolding ruled exec procedureArguments _⨾_
-  end-hidden before name list b e f = let k : c .noArguments ≡ true = cc in rw k
+  pub arguments-hidden : (list : ℕ) (b : Bool) → b ≡ c .noArguments → b ≡ true → writing [] ≡ ruled c t h (procedureArguments c list)
+  unfolding ruled exec procedureArguments
+  arguments-hidden list b e f = let k : c .noArguments ≡ true = cc in rw k
 
-  pub end-shown : (before name : List ℕ) (list : ℕ) (b : Bool) → b ≡ c .noArguments → b ≡ false
-      → writing before ⨾ writing (functionName name) ⨾ writing (bytes "(") ⨾ walked c t h (byItself list) ⨾ writing (bytes ")") ≡ ruled c t h (ended before name list)
+  pub arguments-shown : (list : ℕ) (b : Bool) → b ≡ c .noArguments → b ≡ false
+      → writing (bytes "(") ⨾ walked c t h (byItself list) ⨾ writing (bytes ")") ≡ ruled c t h (procedureArguments c list)
   unfolding ruled exec procedureArguments _⨾_
-  end-shown before name list b e f = let k : c .noArguments ≡ false = cc in rw k
+  arguments-shown list b e f = let k : c .noArguments ≡ false = cc in rw k
+
+  -- What ends a procedure's text: by the name as it is given, or by the bytes of a record's name.
+  pub ended-is : (before name : List ℕ) (list : ℕ) → writing before ⨾ writing (functionName name) ⨾ ruled c t h (procedureArguments c list) ≡ ruled c t h (ended before name list)
+  unfolding ruled exec _⨾_
+  ended-is before name list = refl
+
+  pub ended-shown : (before s bs : List ℕ) (n : Name) (list : ℕ) → bs ≡ nameAt s n
+      → writing before ⨾ writing (functionName (shown bs)) ⨾ ruled c t h (procedureArguments c list) ≡ ruled c t h (ended before (shownAt s n) list)
+  unfolding shownAt
+  ended-shown before s bs n list e = rw e (ended-is before (shown (nameAt s n)) list)
 
   static-is : (m : Method) → writing (staticText c (m .this)) ≡ ruled c t h (staticMark c m)
   unfolding ruled exec staticMark staticText
@@ -176,15 +188,19 @@ module _ (c : Settings) (t : Table) (h : Held) where
   unfolding procedureResult
   result-is r b v none e f = let k : none ≡ c .noReturn || (b || eqb r 0) = rw (← e) f in returned-is c t h none (b || eqb r 0) r k
 
-  pub procedure-named : (r list : ℕ) (b : Bool) (before name : List ℕ)
+  procedure-ended : (r list : ℕ) (b : Bool) (before name : List ℕ)
       → ruled c t h (resulting r b) ⨾ ruled c t h (ended before name list) ≡ ruled c t h (procedureNamed c r b list (write before) name)
   unfolding ruled exec procedureNamed _⨾_
-  procedure-named r list b before name = refl
+  procedure-ended r list b before name = refl
+
+  pub procedure-named : (r list : ℕ) (b : Bool) (name : List ℕ)
+      → ruled c t h (resulting r b) ⨾ writing [] ⨾ writing (functionName name) ⨾ ruled c t h (procedureArguments c list) ≡ ruled c t h (procedureNamed c r b list (write []) name)
+  procedure-named r list b name = ap (λ (x : Trace Refusal). ruled c t h (resulting r b) ⨾ x) (ended-is [] name list) ∙ procedure-ended r list b [] name
 
   pub scoped-none : (r list scope : ℕ) (b : Bool) (name : List ℕ) → scope ≡ 0
       → ruled c t h (resulting r b) ⨾ ruled c t h (ended [] name list) ≡ ruled c t h (procedureNamed c r b list (scopeText c scope) name)
   unfolding scopeText
-  scoped-none r list scope b name g = rw (eq-eqb scope 0 g) (procedure-named r list b [] name)
+  scoped-none r list scope b name g = rw (eq-eqb scope 0 g) (procedure-ended r list b [] name)
 
   pub scoped : (r list scope : ℕ) (b : Bool) (name : List ℕ) → (scope ≡ 0 → ⊥)
       → ruled c t h (resulting r b) ⨾ walked c t h (idOf scope) ⨾ ruled c t h (ended (bytes "::") name list)
@@ -336,8 +352,8 @@ module _ (s : List ℕ) (d : Lent) (call : Call) where
       unfolding ruled exec memberIdText
       member-wrong parent n = rw (method-none s (λ m. methodNamed c m (seq (trace.call (byItself parent)) (write (bytes "::"))) name) (refuse (MemberFunctionIdIsNotMemberFunctionType i)) x n)
 
-      pub member-right : (parent : ℕ) (p : MemberFunctionType) (bs : List ℕ) → x ≡ type.MemberFunction p → bs ≡ name
-          → ruled c t k (methodNamed c (methodOf p) (seq (trace.call (byItself parent)) (write (bytes "::"))) bs) ≡ ruled c t k (memberIdText c parent i name (typeContents s x))
+      pub member-right : (parent : ℕ) (p : MemberFunctionType) (bs : List ℕ) → x ≡ type.MemberFunction p → shown bs ≡ name
+          → ruled c t k (methodNamed c (methodOf p) (seq (trace.call (byItself parent)) (write (bytes "::"))) (shown bs)) ≡ ruled c t k (memberIdText c parent i name (typeContents s x))
       unfolding memberIdText typeContents
       member-right parent p bs e f = rw (e, f)
 
@@ -368,12 +384,6 @@ module _ (s : List ℕ) (d : Lent) (call : Call) where
             ∙ scoped c t k (p .result .0) (p .arguments .0) scope (p .constructor) name g
             ∙ function-id-is
 
--- The end of a signature, by the bytes of its name.
-pub end-named : (c : Settings) (t : Table) (h : Held) (before bs name : List ℕ) (list : ℕ) → bs ≡ name
-    → ruled c t h (seq (write before) (seq (write (functionName bs)) (procedureArguments c list)))
-    ≡ ruled c t h (seq (write before) (seq (write (functionName name)) (procedureArguments c list)))
-end-named c t h before bs name list e = rw e
-
 -- The id behind its own count: what the writers do for the call with one id more.
 inner-is : (s : List ℕ) (d : Lent) (call k : Call) (p : Settings → Rule) → k ≡ further call
     → ruled (settingsOf k) (tableIn s d) (holding k []) (p (settingsOf k)) ≡ ruled (settingsOf call) (tableIn s d) (held (suc (call .chain)) []) (p (settingsOf call))
@@ -393,10 +403,15 @@ module _ (s : List ℕ) (d : Lent) (call k : Call) (i : ℕ) (r : IdRead) (x : I
       ap (λ (p : Rule). step ⨾ ruled (settingsOf k) (tableIn s d) (holding k []) p) (other-id (settingsOf k) (d .ids) x n) ∙ id-in
 
   pub id-function : (w : FunctionId) (y : Trace Refusal) → x ≡ id.Function w
-      → y ≡ walked (settingsOf k) (tableIn s d) (holding k []) (functionId (w .scope .0) (w .function .0) (nameAt (d .ids) (w .name)))
+      → y ≡ walked (settingsOf k) (tableIn s d) (holding k []) (functionId (w .scope .0) (w .function .0) (shownAt (d .ids) (w .name)))
       → step ⨾ y ≡ walked (settingsOf call) (tableIn s d) (holding call []) (idOf i)
   unfolding ruled exec idText idContents
   id-function w y a b = rw b (rw a at id-in)
+
+-- The bytes of a record's name are shown.
+pub name-shown : (s bs : List ℕ) (n : Name) → bs ≡ nameAt s n → shown bs ≡ shownAt s n
+unfolding shownAt
+name-shown s bs n e = rw e refl
 
 -- The allowance and the chain are 32 together.
 pub chained : (call k : Call) (n : ℕ) → k ≡ further call → (call .chain + 1) + n ≡ 32 → k .chain + n ≡ 32
@@ -412,7 +427,7 @@ module _ (s : List ℕ) (d : Lent) (call : Call) (x : IdData) where
   other-function w e = rw e
 
   pub other-member : (w : MemberFunctionId) → x ≡ id.MemberFunction w
-      → walked (settingsOf call) (tableIn s d) (holding call []) (memberId (w .parent .0) (w .function .0) (nameAt (d .ids) (w .name))) ≡ other
+      → walked (settingsOf call) (tableIn s d) (holding call []) (memberId (w .parent .0) (w .function .0) (shownAt (d .ids) (w .name))) ≡ other
   unfolding ruled exec otherText idText idContents
   other-member w e = rw e
 
@@ -422,8 +437,8 @@ module _ (s : List ℕ) (d : Lent) (call : Call) (x : IdData) where
   unfolding ruled exec otherText idText idContents _⨾_
   other-list w e = rw e
 
-  pub other-string : (w : StringId) (bs : List ℕ) → x ≡ id.String w → bs ≡ nameAt (d .ids) (w .name) → writing (stringText bs) ≡ other
-  unfolding ruled exec otherText idText idContents
+  pub other-string : (w : StringId) (bs : List ℕ) → x ≡ id.String w → bs ≡ nameAt (d .ids) (w .name) → writing (stringText (shown bs)) ≡ other
+  unfolding ruled exec otherText idText idContents shownAt
   other-string w bs e f = rw (e, f)
 
   pub other-unhandled : (n : ℕ) → x ≡ id.Unhandled n → writing (unhandledScope n) ≡ other

@@ -5,10 +5,11 @@ ghost use mathlib.Core.List.{[]};
 ghost use Prim.Native.Nat.{_+_, _≤_, _<_};
 ghost use lib.ListN.{length};
 ghost use Rattle.interpreter.specs.Trace.{write};
-ghost use Rattle.rules.specs.Record.{idContents, nameAt};
+ghost use Rattle.utf8.specs.Utf8.{shown};
+ghost use Rattle.rules.specs.Record.{idContents, shownAt};
 ghost use Rattle.rules.specs.Places.{lent};
 ghost use Rattle.rules.specs.Task.{functionOf, idOf, memberId};
-ghost use Rattle.rules.specs.Types.{procedureResult, returned};
+ghost use Rattle.rules.specs.Types.{procedureResult, procedureArguments, returned};
 ghost use Rattle.rules.specs.Methods.{methodNamed, procedureNamed};
 ghost use Rattle.rules.specs.Ids.{stringEntries};
 ghost use Rattle.pen.specs.Page.{page, Wrote};
@@ -42,6 +43,7 @@ use leaf_writers::fragments::maybe_emit_static;
 use leaf_writers::marks::emit_mark;
 use leaf_writers::marks::unhandled_scope;
 use leaf_writers::names::emit_name_str;
+use leaf_writers::names::emit_shown_str;
 use leaf_writers::names::name_of;
 use leaf_writers::settings::no_arguments;
 use leaf_writers::settings::text_if;
@@ -62,8 +64,8 @@ fn deeper(call: Call) -> Call
     }
 }
 
-// What stands before a procedure's name, the name, and the arguments.
-fn emit_procedure_end(
+// A procedure's arguments.
+fn emit_arguments(
     types: &[u8],
     ids: &[u8],
     bounds: &[u32],
@@ -73,21 +75,17 @@ fn emit_procedure_end(
     call: Call,
     seen: &mut [u64],
     left: usize,
-    before: &[u8],
-    name: &[u8],
     list: TypeIndex,
 ) -> Pen
     requires { ⌜ (length (now seen) ≡ 96) × (left ≤ 96) ⌝ }
-    ensures { λ r. ⌜ Writes left (now (seen .entry)) (now (seen .exit)) (page (now (out .entry)) p) (λ o. ruling (now (types .entry)) (lent (now (ids .entry)) (now (bounds .entry)) (now (places .entry))) call o (procedureEnd (settingsOf call) (now (before .entry)) (now (name .entry)) (list .0))) (page (now (out .exit)) r) ⌝ }
+    ensures { λ r. ⌜ Writes left (now (seen .entry)) (now (seen .exit)) (page (now (out .entry)) p) (λ o. ruling (now (types .entry)) (lent (now (ids .entry)) (now (bounds .entry)) (now (places .entry))) call o (procedureArguments (settingsOf call) (list .0))) (page (now (out .exit)) r) ⌝ }
 {
-    let a = pen::text(out, p, before);
-    let b = emit_name_str(out, a, name);
     if no_arguments(call) {
-        return b;
+        return p;
     }
-    let c = pen::text(out, b, b"(");
-    let d = emit_type_index(types, ids, bounds, places, out, c, call, seen, left, list);
-    pen::text(out, d, b")")
+    let a = pen::text(out, p, b"(");
+    let b = emit_type_index(types, ids, bounds, places, out, a, call, seen, left, list);
+    pen::text(out, b, b")")
 }
 
 // A procedure's result, unless there is none to write.
@@ -123,7 +121,7 @@ fn emit_result(
     )
 }
 
-// A procedure by its name.
+// A procedure by the name that the caller gives.
 fn emit_procedure(
     types: &[u8],
     ids: &[u8],
@@ -142,23 +140,11 @@ fn emit_procedure(
 {
     let list = x.arguments;
     let a = emit_result(types, ids, bounds, places, out, p, call, seen, left, x);
-    emit_procedure_end(
-        types,
-        ids,
-        bounds,
-        places,
-        out,
-        a,
-        call,
-        seen,
-        left,
-        b"",
-        name,
-        list,
-    )
+    let b = emit_name_str(out, a, name);
+    emit_arguments(types, ids, bounds, places, out, b, call, seen, left, list)
 }
 
-// The name and the arguments of a function id.
+// What stands before the name of a function id, the name as it is shown, and the arguments.
 fn emit_id_end(
     types: &[u8],
     ids: &[u8],
@@ -174,24 +160,13 @@ fn emit_id_end(
     x: ProcedureType,
 ) -> Pen
     requires { ⌜ (length (now seen) ≡ 96) × (left ≤ 96) ⌝ }
-    ensures { λ r. ⌜ Writes left (now (seen .entry)) (now (seen .exit)) (page (now (out .entry)) p) (λ o. ruling (now (types .entry)) (lent (now (ids .entry)) (now (bounds .entry)) (now (places .entry))) call o (procedureEnd (settingsOf call) (now (before .entry)) (nameAt (now (ids .entry)) (f .name)) (x .arguments .0))) (page (now (out .exit)) r) ⌝ }
+    ensures { λ r. ⌜ Writes left (now (seen .entry)) (now (seen .exit)) (page (now (out .entry)) p) (λ o. ruling (now (types .entry)) (lent (now (ids .entry)) (now (bounds .entry)) (now (places .entry))) call o (procedureEnd (settingsOf call) (now (before .entry)) (shownAt (now (ids .entry)) (f .name)) (x .arguments .0))) (page (now (out .exit)) r) ⌝ }
 {
     let list = x.arguments;
     let name = f.name;
-    emit_procedure_end(
-        types,
-        ids,
-        bounds,
-        places,
-        out,
-        p,
-        call,
-        seen,
-        left,
-        before,
-        name_of(ids, name),
-        list,
-    )
+    let a = pen::text(out, p, before);
+    let b = emit_shown_str(out, a, name_of(ids, name));
+    emit_arguments(types, ids, bounds, places, out, b, call, seen, left, list)
 }
 
 // A function by its name and type: the type is opened, then read. Type 0 writes only the name, and so does a type that is no function's.
@@ -250,7 +225,7 @@ pub fn emit_function(
     }
 }
 
-// A method by its name.
+// A method by the name that the caller gives.
 fn emit_method(
     types: &[u8],
     ids: &[u8],
@@ -300,7 +275,7 @@ fn emit_method(
     )
 }
 
-// A method by its name and its parent, which is a type.
+// A member function by its parent, which is a type, and by the bytes of its name, which are shown.
 fn emit_member(
     types: &[u8],
     ids: &[u8],
@@ -316,7 +291,7 @@ fn emit_member(
     m: MemberFunctionType,
 ) -> Pen
     requires { ⌜ (length (now seen) ≡ 96) × (left ≤ 96) ⌝ }
-    ensures { λ r. ⌜ Writes left (now (seen .entry)) (now (seen .exit)) (page (now (out .entry)) p) (λ o. ruling (now (types .entry)) (lent (now (ids .entry)) (now (bounds .entry)) (now (places .entry))) call o (memberNamed (settingsOf call) (methodOf m) (parent .0) (now (name .entry)))) (page (now (out .exit)) r) ⌝ }
+    ensures { λ r. ⌜ Writes left (now (seen .entry)) (now (seen .exit)) (page (now (out .entry)) p) (λ o. ruling (now (types .entry)) (lent (now (ids .entry)) (now (bounds .entry)) (now (places .entry))) call o (memberNamed (settingsOf call) (methodOf m) (parent .0) (shown (now (name .entry))))) (page (now (out .exit)) r) ⌝ }
 {
     let this = m.this;
     let result = m.result;
@@ -337,7 +312,7 @@ fn emit_member(
     );
     let c = emit_type_index(types, ids, bounds, places, out, b, call, seen, left, parent);
     let d = pen::text(out, c, b"::");
-    let e = emit_name_str(out, d, name);
+    let e = emit_shown_str(out, d, name);
     emit_method_args(
         types,
         ids,
@@ -364,7 +339,7 @@ fn emit_member_id(
     call: Call,
     d: MemberFunctionId,
 ) -> Pen
-    ensures { λ r. ⌜ Wrote (page (now (out .entry)) p) (walking (now (types .entry)) (lent (now (ids .entry)) (now (bounds .entry)) (now (places .entry))) call [] (memberId (d .parent .0) (d .function .0) (nameAt (now (ids .entry)) (d .name)))) (page (now (out .exit)) r) ⌝ }
+    ensures { λ r. ⌜ Wrote (page (now (out .entry)) p) (walking (now (types .entry)) (lent (now (ids .entry)) (now (bounds .entry)) (now (places .entry))) call [] (memberId (d .parent .0) (d .function .0) (shownAt (now (ids .entry)) (d .name)))) (page (now (out .exit)) r) ⌝ }
 {
     let function = d.function;
     let parent = d.parent;
@@ -383,7 +358,7 @@ fn emit_member_id(
                     Refusal::MemberFunctionIdIsNotMemberFunctionType(function.0),
                 );
             };
-            let shown = name_of(ids, name);
+            let bytes = name_of(ids, name);
             emit_member(
                 types,
                 ids,
@@ -395,7 +370,7 @@ fn emit_member_id(
                 &mut list,
                 95,
                 parent,
-                shown,
+                bytes,
                 m,
             )
         }

@@ -30,7 +30,7 @@ use Rattle.codeview.proofs.Tags.{by-tag}
 use Rattle.interpreter.specs.Trace.{exec, prefix, count, limit, Held, Trace}
 use Rattle.interpreter.proofs.Laws.{walk-through}
 use Rattle.rules.specs.Flags.{Settings, settings}
-use Rattle.rules.specs.Record.{good, Table, matchName, nameAt, typeContents, typeAsRead}
+use Rattle.rules.specs.Record.{good, Table, matchName, shownAt, typeContents, typeAsRead}
 use Rattle.rules.specs.Places.{tableBy, Near, readNear, beside, tableIn}
 use Rattle.rules.specs.Text.{primitiveSize}
 use Rattle.rules.specs.Task.{Rule, sizeOf, value}
@@ -101,11 +101,11 @@ module _ (types : List ℕ) (y : Near) (call : Call) (i n : ℕ) (t : TypeData) 
 
   pub data-class : (c : ClassType) → t ≡ type.Class c → {name : List ℕ} → name ≡ matchName types (c .name) (c .unique) → {v : ℕ} → LayoutSize types y call i (c .forward) (c .size) name v → DataSizes types y call i n t (Bytes v)
   unfolding recordSize namedSize typeContents
-  data-class c e m {v} h = data-value v (λ ids. rw (e, ← m, ← h .is ids (nameAt types (c .name))))
+  data-class c e m {v} h = data-value v (λ ids. rw (e, ← m, ← h .is ids (shownAt types (c .name))))
 
   pub data-union : (u : UnionType) → t ≡ type.Union u → {name : List ℕ} → name ≡ matchName types (u .name) (u .unique) → {v : ℕ} → LayoutSize types y call i (u .forward) (u .size) name v → DataSizes types y call i n t (Bytes v)
   unfolding recordSize namedSize typeContents
-  data-union u e m {v} h = data-value v (λ ids. rw (e, ← m, ← h .is ids (nameAt types (u .name))))
+  data-union u e m {v} h = data-value v (λ ids. rw (e, ← m, ← h .is ids (shownAt types (u .name))))
 
   pub data-enumeration : (x : EnumerationType) → t ≡ type.Enumeration x → {r : SizeRead} → Sizes types y call (x .underlying .0) (n + 1) r → DataSizes types y call i n t r
   unfolding recordSize namedSize typeContents

@@ -4,7 +4,7 @@ use borrow.Author.Needs.{needs}
 use native.Mathlib.Omega.{arith}
 use mathlib.Core.Path.{sym, _∙_}
 use Rattle.context.proofs.Opening.{plain, writes-by, writes-length}
-use Rattle.id_writers.proofs.Laws.{member-open, member-bad, member-stopped, member-wrong, member-right}
+use Rattle.id_writers.proofs.Laws.{member-open, member-bad, member-stopped, member-wrong, member-right, name-shown}
 use Rattle.id_writers.proofs.emit_member_id.Statement.{statement}
 use Rattle.id_writers.proofs.emit_member_id.Tie as tie
 
@@ -57,7 +57,7 @@ same-length-2 : tie.Need-same-length-2
 same-length-2 c = writes-length (c .before .before .before .emit-member .ensures)
 
 returns-3 : tie.Need-returns-3
-returns-3 c = member-open _ _ _ _ _ _ (c .before .before .before .before .before .before .before .before .before .before .before .before .before .before .before .before .before .open-index .ensures) (search needs) _ (sym (c .before .before .before .before .before .before .before .before .before .before .before .before .before .before .before .is-idle .ensures) ∙ c .before .before .before .before .before .before .before .before .before .before .before .before .before .before .if1 .left) (c .before .before .before .before .before .before .before .before .before .before .before .before .before .type-at .ensures) (c .before .before .before .before .before .before .before .before .before .before .before .t .given .1) (writes-by (c .before .before .before .emit-member .ensures) (member-right _ _ _ _ _ _ _ _ _ _ (c .before .before .before .before .before .before .before .before .t2 .given .1) (c .before .before .before .before .before .before .name-of .ensures)))
+returns-3 c = member-open _ _ _ _ _ _ (c .before .before .before .before .before .before .before .before .before .before .before .before .before .before .before .before .before .open-index .ensures) (search needs) _ (sym (c .before .before .before .before .before .before .before .before .before .before .before .before .before .before .before .is-idle .ensures) ∙ c .before .before .before .before .before .before .before .before .before .before .before .before .before .before .if1 .left) (c .before .before .before .before .before .before .before .before .before .before .before .before .before .type-at .ensures) (c .before .before .before .before .before .before .before .before .before .before .before .t .given .1) (writes-by (c .before .before .before .emit-member .ensures) (member-right _ _ _ _ _ _ _ _ _ _ (c .before .before .before .before .before .before .before .before .t2 .given .1) (name-shown _ _ _ (c .before .before .before .before .before .before .name-of .ensures))))
 
 same-length-3 : tie.Need-same-length-3
 same-length-3 c = search needs
