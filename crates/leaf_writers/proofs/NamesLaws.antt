@@ -76,11 +76,11 @@ empty-list : (s : List ℕ) → length s ≡ 0 → s ≡ []
 empty-list [] h = refl
 empty-list (b ∷ s) h = absurd (omega arith)
 
-pub shown-omitted : (s : List ℕ) → length s ≡ 0 → writing (bytes "<name omitted>") ≡ writing (functionName (shown s))
-shown-omitted s h = name-omitted (shown s) (rw (empty-list s h, shown-nil) refl)
+pub shown-omitted : (s : List ℕ) → length s ≤ 0 → writing (functionName s) ≡ writing (functionName (shown s))
+shown-omitted s h = let e : length s ≡ 0 = omega arith in rw (empty-list s e, shown-nil) refl
 
-pub shown-itself : (s : List ℕ) → (length s ≡ 0 → ⊥) → writing (shown s) ≡ writing (functionName (shown s))
-shown-itself s h = name-itself (shown s) (λ e. h (rw (shown-empty s .0 (empty-list (shown s) e)) refl))
+pub shown-itself : (s : List ℕ) → 0 < length s → writing (shown s) ≡ writing (functionName (shown s))
+shown-itself s h = name-itself (shown s) (λ e. let k : s ≡ [] = shown-empty s .0 (empty-list (shown s) e) in let l : length s ≡ 0 = rw k refl in omega arith)
 
 -- A record's name, run by run: what is left to be shown leads to the page that all of it leads to.
 abbrev pub Leads : PageRead → List ℕ → PageRead → ℕ → Type 0

@@ -46,10 +46,10 @@ pub fn emit_shown(out: &mut [u8], p: Pen, name: &[u8]) -> Pen
 pub fn emit_shown_str(out: &mut [u8], p: Pen, name: &[u8]) -> Pen
     ensures { λ r. ⌜ Wrote (page (now (out .entry)) p) (writing (functionName (shown (now (name .entry))))) (page (now (out .exit)) r) ⌝ }
 {
-    if name.len() == 0 {
-        return pen::text(out, p, b"<name omitted>");
+    if 0 < name.len() {
+        return emit_shown(out, p, name);
     }
-    emit_shown(out, p, name)
+    emit_name_str(out, p, name)
 }
 
 // A function's name that the caller gives: byte for byte.

@@ -239,3 +239,23 @@ further =
 pub further-cases : map (λ c. c .given) further ≡ map (λ c. c .wanted) further
 unfolding computing
 further-cases = refl
+
+-- Document 02, Note 2: "Forward references are still matched by raw bytes". A struct of one byte that is only a forward reference, and one of two bytes: their
+-- names, `A` and a letter of a code page each, are shown alike and are not the same.
+abbrev named₀ : ℕ → ℕ → ℕ → List ℕ
+named₀ properties size letter = rec₀ 0x1505 (u16 0 ++ (u16 properties ++ (u32 0 ++ (u32 0 ++ (u32 0 ++ (u16 size ++ (65 ∷ letter ∷ 0 ∷ [])))))))
+
+abbrev alike : List ℕ
+alike = stream 0x1002 (named₀ 0x80 1 0xE9 ++ named₀ 0 2 0xE8)
+
+abbrev pub matched : List Case
+matched =
+    (shown (calls.typeOutcome 0 8 alike 0x1000 64) ⇒ written (bytes "struct A" ++ (0xEF ∷ 0xBF ∷ 0xBD ∷ []))) ∷
+    (shown (calls.typeOutcome 0 8 alike 0x1001 64) ⇒ written (bytes "struct A" ++ (0xEF ∷ 0xBF ∷ 0xBD ∷ []))) ∷
+    (shownSize (sizeOutcome 8 alike 0x1000) ⇒ sizeIs 1) ∷
+    (shownSize (sizeOutcome 8 alike 0x1001) ⇒ sizeIs 2) ∷
+    []
+
+pub matched-by-bytes : map (λ c. c .given) matched ≡ map (λ c. c .wanted) matched
+unfolding computing
+matched-by-bytes = refl

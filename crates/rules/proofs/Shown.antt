@@ -1,9 +1,9 @@
 -- What the rules ask of a name they may ask of its bytes or of the name as it is shown (document 02, Note 2: "the anonymous test reads the replaced name"):
 -- whether it ends in a sign, and whether it is that of an anonymous namespace. Assumes nothing.
-use Prim.Native.Nat.{ℕ, suc, _+_, _*_, _%_, _≤_, _<_}
+use Prim.Native.Nat.{ℕ, _+_, _*_, _%_, _≤_, _<_}
 use mathlib.Core.Path.{_≡_, refl, ap, sym, _∙_}
 use mathlib.Core.Bool.{Bool, true, false, _&&_, _||_}
-use mathlib.Core.List.{List, [], _∷_, _++_}
+use mathlib.Core.List.{List, [], _∷_}
 use lib.Dec.{eqb, leb, ltb}
 use lib.ListN.{take, drop, take-append-drop}
 use native.Mathlib.Omega.{arith}
@@ -11,7 +11,7 @@ use borrow.Author.Tests.{eqb-true, ne-eqb, lt-ltb, ltb-true}
 use Rattle.wire.specs.Field.{pick}
 use Rattle.wire.specs.Text.{bytes}
 use Rattle.utf8.specs.Utf8.{shown}
-use Rattle.utf8.proofs.Shown.{endsIn, shown-ends, allAscii, shown-all, shown-plain}
+use Rattle.utf8.proofs.Shown.{never, both, endsIn, shown-ends, allAscii, shown-all, shown-plain, all-append}
 use Rattle.rules.specs.Text.{endsSigned, hexDigit, hexBelow, hexNumber, plusNumber, sameBytes, isAnonymousNamespace}
 
 -- Whether it ends in a sign.
@@ -31,13 +31,6 @@ pub shown-signed : (s : List ℕ) → endsSigned (shown s) ≡ endsSigned s
 shown-signed s = sign-ends (shown s) ∙ shown-ends isSign sign-low s ∙ sym (sign-ends s)
 
 -- Whether it is that of an anonymous namespace: all bytes of such a name are ASCII.
-never : {A : Type 0} → false ≡ true → A
-never e = absurd (let z : _≡_ {A = ℕ} 0 1 = cc in omega arith)
-
-both : (t u : Bool) → (t && u) ≡ true → (t ≡ true) × (u ≡ true)
-both true u h = (refl, h)
-both false u h = never h
-
 small : (a b c : ℕ) → (leb a b && ltb b c) ≡ true → c ≤ 128 → ltb b 0x80 ≡ true
 small a b c h k = let m : b < c = ltb-true b c (both (leb a b) (ltb b c) h .1) in lt-ltb b 0x80 (omega arith)
 
@@ -76,11 +69,6 @@ same-ascii (x ∷ a) (y ∷ b) h k =
     let e = eqb-true x y (both (eqb x y) (sameBytes a b) h .0) in
     let l = both (ltb y 0x80) (allAscii b) k in
     rw (e, l .0) (same-ascii a b (both (eqb x y) (sameBytes a b) h .1) (l .1))
-
-all-append : (a b : List ℕ) → allAscii a ≡ true → allAscii b ≡ true → allAscii (a ++ b) ≡ true
-unfolding allAscii
-all-append [] b h k = k
-all-append (x ∷ a) b h k = let l = both (ltb x 0x80) (allAscii a) h in rw (l .0) (all-append a b (l .1) k)
 
 letters : allAscii (bytes "?A0x") ≡ true
 unfolding allAscii

@@ -9,15 +9,15 @@ use lib.ListN.{length, take, drop, getD, length-drop, drop-of-length-le}
 use lib.Seq.{drop-cons, take-add, drop-drop}
 use native.Mathlib.Omega.{arith}
 use native.Mathlib.Decide.{decLt}
-use native.Mathlib.Nat.{add-zero, add-suc, suc-add}
+use native.Mathlib.Nat.{add-zero}
 use native.Mathlib.Numerals.{add-one}
-use borrow.Author.Tests.{lt-ltb, le-ltb, le-leb, lt-leb, ltb-true, ltb-false, eqb-true, eqb-false}
+use borrow.Author.Tests.{lt-ltb, le-leb, lt-leb, ltb-true, ltb-false}
 use Rattle.wire.specs.Field.{pick}
 use Rattle.utf8.specs.Utf8.{Range, _‥_, isIn, table, behindIn, behind, fitting, isWhole, reach, replacement, shown}
 use Rattle.utf8.specs.Parts.{leadOf, ranges, behindLead, partAt, runPast, run, asciiAt}
 use Rattle.utf8.specs.declared.Lead.{Lead}
 use Rattle.utf8.specs.declared.Part.{Part}
-use Rattle.utf8.proofs.Shown.{Begins, ascii, leads, stray, begins, shown-whole, shown-broken, shown-nil}
+use Rattle.utf8.proofs.Shown.{never, both, Begins, ascii, leads, stray, begins, shown-whole, shown-broken}
 
 -- A byte and a range.
 below : (a b c : ℕ) → b < a → isIn (a ‥ c) b ≡ false
@@ -142,7 +142,7 @@ fit-out low high n s at h e = rw (drop-cons s at 0 h) (by (ltb b low) (ltb high 
     by : (t u : Bool) → ltb b low ≡ t → ltb high b ≡ u → (t || u) ≡ true → pick (leb low b && leb b high) (suc (fitting (ranges 0x80 0xBF n) (drop (suc at) s))) 0 ≡ 0
     by true u f g e = rw (lt-leb low b (ltb-true _ _ f)) refl
     by false true f g e = rw (le-leb low b (ltb-false _ _ f), lt-leb b high (ltb-true _ _ g)) refl
-    by false false f g e = absurd (let z : _≡_ {A = ℕ} 0 1 = cc in omega arith)
+    by false false f g e = never e
 
 pub fit-more : (low high n : ℕ) (s : List ℕ) (at : ℕ) → at < length s → (ltb (getD s at 0) low || ltb high (getD s at 0)) ≡ false
     → fitting (ranges low high (suc n)) (drop at s) ≡ suc (fitting (ranges 0x80 0xBF n) (drop (suc at) s))
@@ -277,10 +277,6 @@ module _ (s : List ℕ) (at : ℕ) (h : at < length s) where
       let f : 1 ≡ partAt s at .len = ap (λ (p : Part). p .len) e in
       let g : true ≡ partAt s at .whole = ap (λ (p : Part). p .whole) e in
       rw f (run-step (sym g))
-
-both : (t u : Bool) → (t && u) ≡ true → (t ≡ true) × (u ≡ true)
-both true u h = (refl, h)
-both false u h = absurd (let z : _≡_ {A = ℕ} 0 1 = cc in omega arith)
 
 pub run-eight : (n : ℕ) (s : List ℕ) (at : ℕ) → at + n ≤ length s → asciiAt n s at ≡ true → at + run (drop at s) ≡ (at + n) + run (drop (at + n) s)
 unfolding asciiAt

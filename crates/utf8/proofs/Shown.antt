@@ -4,40 +4,24 @@ use Prim.Native.Nat.{ℕ, zero, suc, _<_, _≤_}
 use mathlib.Core.Logic.{_↔_}
 use mathlib.Core.Path.{_≡_, refl, ap, sym, _∙_}
 use mathlib.Core.Bool.{Bool, true, false, _&&_}
-use mathlib.Core.List.{List, [], _∷_, _++_, append-nil}
+use mathlib.Core.List.{List, [], _∷_, _++_, append-assoc}
 use mathlib.Core.Option.{Option, none, some}
-use lib.Dec.{eqb, leb, ltb}
+use lib.Dec.{leb, ltb}
 use lib.ListN.{length, take, drop, take-append-drop}
 use lib.Seq.{take-append-seam}
 use native.Mathlib.Omega.{arith}
 use native.Mathlib.Decide.{decLt}
-use borrow.Author.Tests.{eq-eqb, eqb-true, lt-ltb, le-ltb, le-leb, lt-leb, leb-true}
+use borrow.Author.Tests.{eq-eqb, eqb-true, le-ltb, le-leb, lt-leb, ltb-true, leb-true}
 use Rattle.wire.specs.Field.{pick}
-use Rattle.utf8.specs.Utf8.{
-  Range,
-  isIn,
-  Row,
-  table,
-  behindIn,
-  behind,
-  each,
-  Sequence,
-  sequence,
-  WellFormed,
-  empty,
-  further,
-  fitting,
-  isWhole,
-  reach,
-  replacement,
-  shownPart,
-  shownPast,
-  shown,
-}
+use Rattle.utf8.specs.Utf8.{Range, isIn, Row, table, behindIn, behind, each, Sequence, sequence, WellFormed, empty, further, fitting, isWhole, reach, replacement, shownPart, shownPast, shown}
 
--- What cannot be said of a test.
-never : {A : Type 0} → false ≡ true → A
+-- What cannot be said of a test; and two tests that both hold.
+pub never : {A : Type 0} → false ≡ true → A
 never e = absurd (let z : _≡_ {A = ℕ} 0 1 = cc in omega arith)
+
+pub both : (t u : Bool) → (t && u) ≡ true → (t ≡ true) × (u ≡ true)
+both true u h = (refl, h)
+both false u h = never h
 
 -- Bytes behind the first n are shown as they are by themselves.
 pub past : (n : ℕ) (s : List ℕ) → shownPast n s ≡ shown (drop n s)
@@ -185,10 +169,6 @@ unfoldable pub highBytes : List ℕ → Bool
 highBytes [] = true
 highBytes (b ∷ bs) = leb 0x80 b && highBytes bs
 
-both : (t u : Bool) → (t && u) ≡ true → (t ≡ true) × (u ≡ true)
-both true u h = (refl, h)
-both false u h = never h
-
 high-in : (r : Range) (b : ℕ) → leb 0x80 (r .low) ≡ true → isIn r b ≡ true → leb 0x80 b ≡ true
 unfolding isIn
 high-in r b e h =
@@ -324,3 +304,20 @@ shown-plain (b ∷ bs) h = by (part-of b bs) h (shown-plain bs)
     by : PartOf b bs → allAscii (b ∷ bs) ≡ true → (allAscii bs ≡ true → shownPast 0 bs ≡ bs) → shownPart b bs ++ shownPast (reach (behind b) bs) bs ≡ b ∷ bs
     by (one l e f) h rest = rw (e, f, rest (both (ltb b 0x80) (allAscii bs) h .1)) refl
     by (other c x e g k) h rest = never (sym (not-ascii b _ _ k) ∙ h)
+
+-- Texts one after another; and ASCII bytes are well-formed.
+pub all-append : (a b : List ℕ) → allAscii a ≡ true → allAscii b ≡ true → allAscii (a ++ b) ≡ true
+unfolding allAscii
+all-append [] b h k = k
+all-append (x ∷ a) b h k = let l = both (ltb x 0x80) (allAscii a) h in rw (l .0) (all-append a b (l .1) k)
+
+pub well-append : {a b : List ℕ} → WellFormed a → WellFormed b → WellFormed (a ++ b)
+well-append empty v = v
+well-append {b = b} (further {q = q} {s = s} {t = t} h w e) v = further {t = t ++ b} h (well-append w v) (rw e (append-assoc q s b))
+
+pub well-ascii : (s : List ℕ) → allAscii s ≡ true → WellFormed s
+unfolding allAscii each
+well-ascii [] h = empty
+well-ascii (b ∷ bs) h =
+    let k = both (ltb b 0x80) (allAscii bs) h in
+    further {q = b ∷ []} (sequence [] (behind-low b (ltb-true b 0x80 (k .0))) refl) (well-ascii bs (k .1)) refl

@@ -1,6 +1,7 @@
 -- The eight tests are those of the definition.
 -- Assumes nothing.
 use native.Mathlib.Nat.{add-zero}
+use mathlib.Core.Path.{refl}
 use Rattle.utf8.specs.Parts.{asciiAt}
 use borrow.Author.Needs.{needs}
 use Rattle.utf8.proofs.ascii_in_eight.Statement.{statement}
@@ -53,7 +54,7 @@ shared-slice-read-result-8 c = search needs
 
 returns : tie.Need-returns
 unfolding asciiAt
-returns c = rw add-zero
+returns c = rw add-zero refl
 
 pub ascii-in-eight-spec : {M : Type 1} → statement M
 ascii-in-eight-spec =
