@@ -26,7 +26,7 @@ def row(first, count, make, last):
 # Calls: an index, what is expected (a text, a size or a pair of refusal and detail), and what the call is made with
 
 def call(command, index, expected, flags=0, size=8, room=4096, name=""):
-    return command, index, expected, flags, size, room, name.encode()
+    return command, index, expected, flags, size, room, name if isinstance(name, bytes) else name.encode()
 
 
 def T(index, expected, **how):
@@ -958,6 +958,75 @@ case("strings", {0x1000: arguments(), 0x1001: procedure(0, 0x1000), 0x1002: clas
      0x1015: strings(0x1002, 0x1002)},
      *[I(0x1000 + i, ANONYMOUS if known else name) for i, (name, known) in enumerate(STRINGS)],
      I(0x1014, ANONYMOUS + "::?A0x1f()"), I(0x1015, '"struct ?A0x1f" "struct ?A0x1f"'), F("?A0x1f", 0x1001, "?A0x1f()"))
+
+# Document 02, Note 2: bytes of a name, and the text in which each maximal ill-formed part is replaced. Table 3-7 of the Unicode Standard says which
+# sequences are well-formed; the last row is that of its table 3-11.
+R = b"\xef\xbf\xbd"
+PARTS = [
+    ("63 61 66 E9", b"caf" + R), ("E9 BC", R), ("E2 82", R), ("E2 82 41", R + b"A"), ("E2 28 A1", R + b"(" + R), ("C0 AF", R * 2), ("E0 80 AF", R * 3),
+    ("ED A0 80", R * 3), ("F0 80 80 80", R * 4), ("F0 9F 98", R), ("F0 9F 98 41", R + b"A"), ("F4 90 80 80", R * 4), ("F5 80", R * 2), ("80", R),
+    ("C3 A9", b"\xc3\xa9"), ("EF BF BD", R), ("F0 90 80 F0 90 80 80", R + b"\xf0\x90\x80\x80"),
+    # the ends of each row of table 3-7, and one byte past them
+    ("7F", b"\x7f"), ("C1 BF", R * 2), ("C2 80", b"\xc2\x80"), ("DF BF", b"\xdf\xbf"), ("C2 7F", R + b"\x7f"), ("DF C0", R * 2), ("C2", R),
+    ("E0 9F BF", R * 3), ("E0 A0 80", b"\xe0\xa0\x80"), ("E0 BF BF", b"\xe0\xbf\xbf"), ("E0 C0 80", R * 3), ("E1 80 80", b"\xe1\x80\x80"),
+    ("EC BF BF", b"\xec\xbf\xbf"), ("EC BF C0", R * 2), ("ED 9F BF", b"\xed\x9f\xbf"), ("ED 80 80", b"\xed\x80\x80"), ("ED BF BF", R * 3),
+    ("EE 80 80", b"\xee\x80\x80"), ("EF BF BF", b"\xef\xbf\xbf"), ("EE 7F 80", R + b"\x7f" + R), ("F0 8F BF BF", R * 4),
+    ("F0 90 80 80", b"\xf0\x90\x80\x80"), ("F0 BF BF BF", b"\xf0\xbf\xbf\xbf"), ("F1 80 80 80", b"\xf1\x80\x80\x80"),
+    ("F3 BF BF BF", b"\xf3\xbf\xbf\xbf"), ("F3 BF BF C0", R * 2), ("F3 BF 7F BF", R + b"\x7f" + R), ("F4 80 80 80", b"\xf4\x80\x80\x80"),
+    ("F4 8F BF BF", b"\xf4\x8f\xbf\xbf"), ("F5 80 80 80", R * 4), ("FF FE", R * 2), ("BF 80", R * 2),
+    # a whole sequence between ill-formed ones, and behind a cut one
+    ("E9 C3 A9 E9", R + b"\xc3\xa9" + R), ("F0 9F E2 82 AC", R + b"\xe2\x82\xac"), ("F1 80 C3", R * 2), ("E1 80 E2 80 C3 41", R * 3 + b"A"),
+    ("E1 80 E2 F0 91 92 F1 BF 41", R * 4 + b"A"),
+]
+PARTS = [(bytes.fromhex(name), text) for name, text in PARTS]
+case("parts", {0x1000 + i: class_(name, 1) for i, (name, _) in enumerate(PARTS)}, {0x1000 + i: string(name) for i, (name, _) in enumerate(PARTS)},
+     *[T(0x1000 + i, text, flags=NAME_ONLY) for i, (_, text) in enumerate(PARTS)], *[I(0x1000 + i, text) for i, (_, text) in enumerate(PARTS)])
+# The same behind runs of letters, so that a part stands at each place of eight bytes and at the end.
+LETTERS = b"abcdefghijklmnopq"
+case("parts-in-runs", {0x1000 + i: class_(LETTERS[:i] + b"\xe9" + LETTERS[i:], 1) for i in range(18)},
+     {0x1000 + i: string(LETTERS[:i] + b"\xe2\x82\xac\xe2\x82" + LETTERS[i:]) for i in range(18)},
+     *[T(0x1000 + i, LETTERS[:i] + R + LETTERS[i:], flags=NAME_ONLY) for i in range(18)],
+     *[I(0x1000 + i, LETTERS[:i] + b"\xe2\x82\xac" + R + LETTERS[i:]) for i in range(18)])
+# Every record that has a name, and none other: a forward reference is matched by its bytes, the caller's name stays as it is.
+CAFE, TEXT = b"caf\xe9", b"caf" + R
+NAMED = {
+    0x1000: arguments(0x1003), 0x1001: procedure(3, 0x1000), 0x1002: class_(CAFE, 8, kind=0x1504), 0x1003: class_(CAFE, 8),
+    0x1004: class_(CAFE, 8, kind=0x1519), 0x1005: union(CAFE, 8), 0x1006: enum(CAFE, 0x74), 0x1007: enumerate_(CAFE, u16(1)),
+    0x1008: pointer(0x1003), 0x1009: method(0x74, 0x1003, 0x1008, 0x1000), 0x100a: array(0x1003, 16),
+    # a forward reference, a definition that has its text and not its bytes, one that has its bytes, and the first with a unique name
+    0x100b: class_(b"A\xe9", 1, forward=True), 0x100c: class_(b"A\xe8", 2), 0x100d: class_(b"A\xe8", 3, forward=True), 0x100e: class_(b"A" + R, 4),
+    0x100f: class_(b"A\xe9", 5), 0x1010: class_(b"B\xe9", 6, forward=True, unique=b"u\xe9"), 0x1011: class_(b"B\xe9", 7, unique=b"u\xe8"),
+    0x1012: class_(b"C\xe9", 9, unique=b"u\xe9"),
+    # names that end in a sign, in an ill-formed part, and that are all ill-formed
+    0x1013: class_(b"\xe9*", 1), 0x1014: pointer(0x1013), 0x1015: class_(b"*\xe9", 1), 0x1016: pointer(0x1015), 0x1017: class_(b"\xff", 1),
+    0x1018: class_(b"", 1),
+}
+NAMED_IDS = {
+    0x1000: function(0, 0x1001, CAFE), 0x1001: member(0x1003, 0x1009, CAFE), 0x1002: string(CAFE), 0x1003: function(0x1002, 0x1001, b"\xe9"),
+    0x1004: function(0, 0x1001, ""), 0x1005: strings(0x1003, 0x1006), 0x1006: string(b"?A0x1f\xe9"), 0x1007: string(b"?A0x\xe9"), 0x1008: string(b"\xe9?A0x1f"),
+    0x1009: string("?A0x1f"),
+}
+case("raw-names", NAMED, NAMED_IDS,
+     T(0x1002, b"class " + TEXT), T(0x1003, b"struct " + TEXT), T(0x1004, b"interface " + TEXT), T(0x1005, b"union " + TEXT), T(0x1006, b"enum " + TEXT),
+     T(0x1007, b"enum class " + TEXT), T(0x1002, TEXT, flags=NAME_ONLY), T(0x1005, TEXT, flags=NAME_ONLY), T(0x1008, b"struct " + TEXT + b"*"),
+     T(0x100a, b"struct " + TEXT + b"[2]"), T(0x1001, b"void ()(struct " + TEXT),
+     I(0x1000, b"void " + TEXT + b"(struct " + TEXT + b")"), I(0x1001, b"int struct " + TEXT + b"::" + TEXT + b"(struct " + TEXT + b")"), I(0x1002, TEXT),
+     I(0x1003, b"void " + TEXT + b"::" + R + b"(struct " + TEXT + b")"), I(0x1004, b"void <name omitted>(struct " + TEXT + b")"),
+     I(0x1005, b'"struct ' + TEXT + b'" "enum ' + TEXT + b'"'), I(0x1006, b"?A0x1f" + R), I(0x1007, b"?A0x" + R), I(0x1008, R + b"?A0x1f"), I(0x1009, ANONYMOUS),
+     # the caller's name
+     F(CAFE, 0x1001, b"void " + CAFE + b"(struct " + TEXT + b")"), F(CAFE, 0x1009, b"int " + CAFE + b"(struct " + TEXT + b")"), F(CAFE, 0, CAFE),
+     F(CAFE, 0x1003, CAFE), F(b"\xed\xa0\x80", 0, b"\xed\xa0\x80"), F("", 0x1001, b"<name omitted>(struct " + TEXT + b")", flags=NO_FUNCTION_RETURN),
+     # sizes of forward references, and their own texts
+     S(0x100b, 5), S(0x100c, 2), S(0x100d, 3), S(0x1010, 9), T(0x100b, b"struct A" + R), T(0x1010, b"struct B" + R),
+     # signs
+     T(0x1014, b"struct " + R + b"**", flags=SP), T(0x1016, b"struct *" + R + b" *", flags=SP),
+     # room: a replaced byte takes three
+     T(0x1017, R, flags=NAME_ONLY, room=3), T(0x1017, (15, 0), flags=NAME_ONLY, room=2), T(0x1017, (15, 0), flags=NAME_ONLY, room=0),
+     T(0x1018, b"", flags=NAME_ONLY, room=0), I(0x1002, TEXT, room=6), I(0x1002, (15, 0), room=5), I(0x1002, (15, 0), room=3), F(CAFE, 0, CAFE, room=4),
+     F(CAFE, 0, (15, 0), room=3))
+# A long name, all of it ill-formed: three times as long in the text, and a whole one that just fits.
+case("raw-long", GOOD, {0x1000: string(b"\xe9" * 1365), 0x1001: string(b"\xc3\xa9" * 2048), 0x1002: string(b"\xe9" * 50000)},
+     I(0x1000, R * 1365), I(0x1000, R * 1365, room=4095), I(0x1000, (15, 0), room=4094), I(0x1001, b"\xc3\xa9" * 2048), I(0x1002, (15, 0)))
 
 with open(os.path.join(CRATE, "args"), "w") as f:
     f.write("".join(name + "\n" for name in NAMES))

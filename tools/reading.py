@@ -2,12 +2,13 @@
 """A reading of documents 01 and 02 in plain Python: streams, records, the four calls, refusals, flags and sizes.
 
     reading.py sheet DIR          prints the lines of `names` for types.bin, ids.bin and sheet.bin in DIR
-    reading.py sheets DIR...      compares those lines with DIR/expected.txt, for each DIR
+    reading.py sheets DIR...      compares those lines with DIR/expected.txt, or with expected-after-NN.txt where Note NN changed them, for each DIR
     reading.py vectors CRATE      prints what `test_vectors` must print, from the files args and data/*.bin of its folder CRATE
     reading.py ids TYPES IDS      prints each id of a pair of streams with its text under flags 0
 
 It was made from the documents and from the texts of the Rust module that they name; where they leave a choice, it takes that of docs/READINGS.md. Of
-document 02 it has Note 1. Nothing of the Rattle code or its definitions is used. Expected outputs are made by it, so it is kept simple rather than fast."""
+document 02 it has Notes 1 and 2. Nothing of the Rattle code or its definitions is used. Expected outputs are made by it, so it is kept simple rather than fast."""
+import functools
 import os
 import sys
 
@@ -16,6 +17,7 @@ sys.setrecursionlimit(20000)
 NO_FUNCTION_RETURN, NO_MEMBER_FUNCTION_STATIC, SPACE_AFTER_COMMA, SPACE_BEFORE_POINTER, NAME_ONLY, NO_ARGUMENTS = 1, 2, 4, 8, 16, 32
 ALL_FLAGS = 63
 OPEN_LIMIT, CHAIN_LIMIT = 96, 32
+NOTES = 2                                          # so many Notes of document 02 are here
 
 # code: name and byte size, by cvinfo.h and the Rust module
 PRIMITIVES = {
@@ -103,9 +105,39 @@ class Fields:
         return [self.number(4) for _ in range(count)]
 
     def names(self, properties):
-        """Name and key: the key is the unique name where property bit 9 is set."""
+        """Name and key: the key, by which records are matched, is the unique name where property bit 9 is set. It stays as it is."""
         name = self.name()
-        return name, self.name() if properties >> 9 & 1 else name
+        return shown(name), self.name() if properties >> 9 & 1 else name
+
+
+# Names in a local code page. UTF-8 writes every scalar value, and no surrogate, as one sequence; what begins none of these sequences is ill-formed.
+
+REPLACEMENT = b"\xef\xbf\xbd"
+
+
+@functools.cache
+def sequences():
+    """The sequences of UTF-8 that are longer than a byte, and what they begin with."""
+    whole = [chr(scalar).encode() for scalar in range(0x80, 0x110000) if not 0xd800 <= scalar < 0xe000]
+    return frozenset(whole), frozenset(sequence[:n] for sequence in whole for n in range(1, len(sequence)))
+
+
+def part(name):
+    """The length of the part that a name begins with, and whether it is well-formed: one sequence, or else the longest beginning of one, or one byte."""
+    if name[0] < 0x80:
+        return 1, True
+    whole, begun = sequences()
+    lengths = range(min(4, len(name)), 0, -1)
+    return next(((n, True) for n in lengths if name[:n] in whole), None) or (next((n for n in lengths if name[:n] in begun), 1), False)
+
+
+def shown(name):
+    """A record's name as it is written: each maximal ill-formed part replaced."""
+    text = b""
+    while name:
+        length, whole = part(name)
+        text, name = text + (name[:length] if whole else REPLACEMENT), name[length:]
+    return text
 
 
 def modifier(f):
@@ -140,7 +172,7 @@ def argument_list(f):
 
 def enumerate_(f):
     f.number(2)
-    return Record("named", word=b"enum class", size=f.value_width(), name=f.name())
+    return Record("named", word=b"enum class", size=f.value_width(), name=shown(f.name()))
 
 
 def array(f):
@@ -172,11 +204,11 @@ def enumeration(f):
 
 
 def function_id(f):
-    return Record("function", scope=f.number(4), type=f.number(4), name=f.name())
+    return Record("function", scope=f.number(4), type=f.number(4), name=shown(f.name()))
 
 
 def member_id(f):
-    return Record("member", parent=f.number(4), type=f.number(4), name=f.name())
+    return Record("member", parent=f.number(4), type=f.number(4), name=shown(f.name()))
 
 
 def string_list(f):
@@ -185,7 +217,7 @@ def string_list(f):
 
 def string(f):
     f.number(4)
-    return Record("string", name=f.name())
+    return Record("string", name=shown(f.name()))
 
 
 TYPE_KINDS = {
@@ -699,6 +731,12 @@ def load(*path):
         return f.read()
 
 
+def expected(folder):
+    """The lines of a case: those of the last Note that changed them and is here."""
+    later = [f"expected-after-{note:02}.txt" for note in range(NOTES, 0, -1)]
+    return load(folder, next((name for name in later if os.path.exists(os.path.join(folder, name))), "expected.txt"))
+
+
 def run_sheet(folder):
     return sheet(load(folder, "types.bin"), load(folder, "ids.bin"), load(folder, "sheet.bin"))
 
@@ -730,10 +768,10 @@ def main():
     elif mode == "sheets":
         wrong = 0
         for folder in rest:
-            got, expected = run_sheet(folder), load(folder, "expected.txt")
-            if got != expected:
+            got, right = run_sheet(folder), expected(folder)
+            if got != right:
                 wrong += 1
-                pairs = zip(got.split(b"\n"), expected.split(b"\n"))
+                pairs = zip(got.split(b"\n"), right.split(b"\n"))
                 print(folder, "differs:", next((p for p in pairs if p[0] != p[1]), "in length"))
         print(len(rest), "sheets,", wrong, "differ")
         sys.exit(wrong > 0)

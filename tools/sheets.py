@@ -2,9 +2,9 @@
 """Makes the data files of the programs `names` and `test_sheets`.
 
     sheets.py names CRATE            writes data/types.bin, ids.bin, sheet.bin and stdout of `names` into its folder CRATE, and prints the table of its README
-    sheets.py sheets CRATE DIR...    copies the three files of each DIR into CRATE/data, and writes args and, from each DIR/expected.txt, stdout; a case of a
-                                     folder noteNN has that before its name. Then follows the sheet of `names` over no ids, once with a file of no
-                                     bytes and once with none
+    sheets.py sheets CRATE DIR...    copies the three files of each DIR into CRATE/data, and writes args and, from each DIR/expected.txt (or,
+                                     where Note NN changed it, DIR/expected-after-NN.txt), stdout; a case of a folder noteNN has that before its name.
+                                     Then follows the sheet of `names` over no ids, once with a file of no bytes and once with none
 
 The lines of `names` stand here beside their commands and were worked out by hand from document 01, and those over no ids from document 02, Note 1. The script
 also asks tools/reading.py, a reading of the documents in Python, for the whole sheet and stops where that answers otherwise."""
@@ -115,7 +115,7 @@ def sheets(crate, folders):
         for part in ("types", "ids", "sheet"):
             put(reading.load(folder, part + ".bin"), crate, "data", f"{name}-{part}.bin")
         args.append(name.encode() + b"\n")
-        lines.append(reading.load(folder, "expected.txt"))
+        lines.append(reading.expected(folder))
     for name, files in (("no-ids-bytes", ("types", "ids", "sheet")), ("no-ids-file", ("types", "sheet"))):
         given = {"types": stream(SMALL), "ids": b"", "sheet": COMMANDS}
         for part in files:

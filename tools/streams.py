@@ -51,8 +51,13 @@ def array(element, size):
     return rec(0x1503, u32(element) + u32(0x23) + number(size) + b"\0")
 
 
+def ended(name):
+    """A name and its closing zero; one that is no UTF-8 is given as bytes."""
+    return (name if isinstance(name, bytes) else name.encode()) + b"\0"
+
+
 def names(name, unique):
-    return name.encode() + b"\0" + (b"" if unique is None else unique.encode() + b"\0")
+    return ended(name) + (b"" if unique is None else ended(unique))
 
 
 def properties(forward, unique):
@@ -72,15 +77,15 @@ def enum(name, target, forward=False, unique=None):
 
 
 def enumerate_(name, value):
-    return rec(0x1502, u16(3) + value + name.encode() + b"\0")
+    return rec(0x1502, u16(3) + value + ended(name))
 
 
 def function(scope, kind, name):
-    return rec(0x1601, u32(scope) + u32(kind) + name.encode() + b"\0")
+    return rec(0x1601, u32(scope) + u32(kind) + ended(name))
 
 
 def member(parent, kind, name):
-    return rec(0x1602, u32(parent) + u32(kind) + name.encode() + b"\0")
+    return rec(0x1602, u32(parent) + u32(kind) + ended(name))
 
 
 def strings(*entries):
@@ -88,7 +93,7 @@ def strings(*entries):
 
 
 def string(name):
-    return rec(0x1605, u32(0) + name.encode() + b"\0")
+    return rec(0x1605, u32(0) + ended(name))
 
 
 MALFORMED = rec(0x1505)                            # a struct with no fields
