@@ -299,17 +299,18 @@ def refused_forms(yokberd, types, ids):
 
 
 def hard_names(yokberd, folder):
-    """A name with a tab, a line feed, a quote, a backslash, a control character and bytes that are not UTF-8."""
+    """A name with a tab, a line feed, a quote, a backslash, a control character and a byte that is not UTF-8, which is shown as U+FFFD."""
     name = b"a\tb\nc\rd\\e\"f\x01g\xffh\xe7\xba\xbai"
+    shown = name.replace(b"\xff", b"\xef\xbf\xbd")
     record = (20 + len(name) + 1).to_bytes(2, "little") + bytes([0x05, 0x15]) + bytes(16) + b"\4\0" + name + b"\0"
     header = b"".join(n.to_bytes(4, "little") for n in (20040203, 56, 0x1000, 0x1001, len(record)))
     path = os.path.join(folder, "hard.bin")
     with open(path, "wb") as f:
         f.write(header.ljust(56, b"\0") + record)
-    same(printed(yokberd, "types", "--types", path), b"0x1000  " + name + b"\n", "a hard name, plain")
-    same(unescaped(printed(yokberd, "types", "--types", path, "--tsv")[:-1]), b"0x1000\t0\t0x0\t" + name, "a hard name, --tsv")
+    same(printed(yokberd, "types", "--types", path), b"0x1000  " + shown + b"\n", "a hard name, plain")
+    same(unescaped(printed(yokberd, "types", "--types", path, "--tsv")[:-1]), b"0x1000\t0\t0x0\t" + shown, "a hard name, --tsv")
     same(printed(yokberd, "types", "--types", path, "--tsv").count(b"\t"), 3, "the tabs of --tsv")
-    same(json.loads(printed(yokberd, "types", "--types", path, "--json"))["text"], name.decode(errors="replace"), "a hard name, --json")
+    same(json.loads(printed(yokberd, "types", "--types", path, "--json"))["text"], shown.decode(), "a hard name, --json")
     same(printed(yokberd, "sizes", "--types", path, "--json"), b'{"index":"0x1000","size":4}\n', "a size, --json")
 
 

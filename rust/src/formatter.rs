@@ -41,9 +41,10 @@ const BATCH: usize = 1 << 10;
 ///
 /// A look-up starts at a noted place, so a call does not take longer on longer streams. What does bound its time is said at the [crate](crate#time).
 ///
-/// A text is bytes as they stand in the records, which may not be UTF-8. The calls named as in the original give a `String`, in which each ill-formed part
-/// is replaced by U+FFFD; those with `_bytes` give the bytes, those with `_into` write them into a buffer of the caller's and allocate nothing. The others
-/// write into a buffer of their thread, which is kept for the next call and grows with the texts up to 64 KiB, and copy the text out of it.
+/// A text is UTF-8: each ill-formed part of a record's name is replaced by U+FFFD, as the original replaces it. Only the name that is given to a call of a
+/// function stays as it is, and as bytes it may be ill-formed. The calls named as in the original give the text as a `String`; those with `_bytes` give its
+/// bytes, those with `_into` write them into a buffer of the caller's and allocate nothing. The others write into a buffer of their thread, which is kept
+/// for the next call and grows with the texts up to 64 KiB, and copy the text out of it.
 ///
 /// The module index is taken so that calls written for the original can stay as they are. It is not used: an index that leads into another module, which
 /// has bit 31 set, is refused ([`Error::CrossModule`]).
@@ -132,7 +133,7 @@ impl<'a> TypeFormatter<'a> {
         self.text(|out| self.format_id_into(out, module_index, id_index), into_string)
     }
 
-    /// [`format_id`](Self::format_id) as bytes.
+    /// [`format_id`](Self::format_id) as bytes: those of that string.
     pub fn format_id_bytes(&self, module_index: usize, id_index: IdIndex) -> Result<Vec<u8>> {
         self.text(|out| self.format_id_into(out, module_index, id_index), <[u8]>::to_vec)
     }
@@ -152,7 +153,7 @@ impl<'a> TypeFormatter<'a> {
         self.text(|out| self.format_type_into(out, module_index, index), into_string)
     }
 
-    /// [`format_type`](Self::format_type) as bytes.
+    /// [`format_type`](Self::format_type) as bytes: those of that string.
     pub fn format_type_bytes(&self, module_index: usize, index: TypeIndex) -> Result<Vec<u8>> {
         self.text(|out| self.format_type_into(out, module_index, index), <[u8]>::to_vec)
     }
@@ -330,7 +331,7 @@ fn header_indexes(stream: &[u8]) -> Range<u32> {
     word(8)..word(12)
 }
 
-// The text where it is UTF-8; else a copy with each ill-formed part replaced.
+// The text. All that a `String` is made of is UTF-8: names of records as they are shown, and a name that is given as a `str`.
 fn into_string(text: &[u8]) -> String {
     String::from_utf8_lossy(text).into_owned()
 }

@@ -159,7 +159,7 @@ fn a_failing_writer_is_told() {
 fn names_that_are_not_utf8() {
     let types = common::stream(&[common::class(0x1505, b"Caf\xe9", None, 4, false)]);
     let short = formatter(&types, &[], TypeFormatterFlags::NAME_ONLY.bits());
-    assert_eq!(short.format_type_bytes(0, TypeIndex(0x1000)), Ok(b"Caf\xe9".to_vec()));
+    assert_eq!(short.format_type_bytes(0, TypeIndex(0x1000)), Ok(b"Caf\xef\xbf\xbd".to_vec()));
     assert_eq!(short.format_type(0, TypeIndex(0x1000)), Ok("Caf\u{fffd}".into()));
     assert_eq!(short.format_function_bytes(b"\xff", 0, TypeIndex(0)), Ok(b"\xff".to_vec()));
 }

@@ -69,7 +69,7 @@ fn every_room(rng: &mut Rng, formatter: &TypeFormatter, call: Call) -> Result<Ve
     whole
 }
 
-// The forms that allocate have the same answer, as UTF-8 as far as it goes, and write nothing where they are refused.
+// The forms that allocate have the same answer, which is UTF-8 where a given name is, and write nothing where they are refused.
 fn emitted(formatter: &TypeFormatter, call: Call, whole: &Result<Vec<u8>, Error>) {
     let (formatter, mut text) = (formatter.clone().with_text_limit(SHEET_TEXT), String::new());
     let done = match call {
@@ -81,7 +81,7 @@ fn emitted(formatter: &TypeFormatter, call: Call, whole: &Result<Vec<u8>, Error>
         },
         Call::Size(_) => return,
     };
-    let expected = whole.as_ref().map_or(String::new(), |text| String::from_utf8_lossy(text).into_owned());
+    let expected = whole.as_ref().map_or(String::new(), |text| String::from_utf8(text.clone()).unwrap());
     assert_eq!((done.err(), text), (whole.as_ref().err().copied(), expected), "{call:?}");
 }
 

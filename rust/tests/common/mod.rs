@@ -173,7 +173,7 @@ pub struct Streams {
     pub id_count: u32,
 }
 
-const NAMES: [&[u8]; 12] = [
+const NAMES: [&[u8]; 15] = [
     b"A",
     b"B",
     b"loom::Yarn",
@@ -183,11 +183,38 @@ const NAMES: [&[u8]; 12] = [
     b"?A0x1f",
     b"?A0x+",
     b"Caf\xe9",
+    b"Caf\xe8",
+    b"\xed\xa0\x80*",
+    b"\xf0\x9f\x98",
     b"\xe7\xba\xba",
     b"line\nfeed",
     b"std::vector<int,std::allocator<int> >",
 ];
 const PRIMITIVES: [u32; 10] = [0, 3, 0x74, 0x40, 0x70, 0x674, 0x470, 0x14, 0x9ff, 0xff];
+
+/// A name of any bytes but zero: letters and whole sequences of UTF-8, then damaged.
+pub fn raw_name(rng: &mut Rng) -> Vec<u8> {
+    let mut name = Vec::new();
+    for _ in 0..rng.below(12) {
+        match rng.below(6) {
+            0 => name.push(1 + rng.below(255) as u8),
+            1 => name.push(rng.pick(&[0x7f, 0x80, 0x8f, 0x90, 0x9f, 0xa0, 0xbf, 0xc0, 0xc2, 0xdf, 0xe0, 0xed, 0xef, 0xf0, 0xf4, 0xf5, 0xff])),
+            2 | 3 => {
+                name.extend(rng.pick(&["é", "纺", "😀", "\u{7ff}", "\u{800}", "\u{d7ff}", "\u{e000}", "\u{ffff}", "\u{10000}", "\u{10ffff}"]).bytes())
+            }
+            _ => name.extend(&b"loom::Yarn<int>*&"[..1 + rng.below(17)]),
+        }
+    }
+    for _ in 0..rng.below(3) {
+        let at = rng.below(name.len() + 1);
+        match rng.below(3) {
+            0 => name.truncate(at),
+            1 if at < name.len() => drop(name.remove(at)),
+            _ => name.insert(at, 0x80 + rng.below(128) as u8),
+        }
+    }
+    name
+}
 
 // An index as a record of stream may have it: mostly of an earlier record, at times of its own, of a later one, missing, or of another module.
 fn index(rng: &mut Rng, at: usize, count: usize) -> u32 {

@@ -1,8 +1,8 @@
 //! Texts and sizes held to the writers of the original: docs/src/type_formatter.rs as it is, compiled over stand-ins for the crates that it needs.
 //!
 //! What is compared is what document 01 calls the compared domain: a fresh formatter for each call, no string table, well-formed records of the kinds that
-//! are read, UTF-8 names, each full name defined once and behind its forward references, no limit met. The layouts of records are not compared, since the
-//! stand-in for the crate `pdb` is ours.
+//! are read, each full name defined once and behind its forward references, no limit met; and, since Note 2 of document 02, record names of any bytes. The
+//! layouts of records are not compared, since the stand-in for the crate `pdb` is ours.
 mod asked;
 #[path = "../common/mod.rs"]
 mod common;
@@ -21,7 +21,7 @@ pub use pdb_stand_in::*;
 pub use range_collections_stand_in::{range_set, RangeSet, RangeSet2};
 
 use asked::{refusal, Answer, Original};
-use common::{case_count, real_streams, record_kinds, Call, Rng, Streams, FIRST, UNHANDLED};
+use common::{case_count, raw_name, real_streams, record_kinds, Call, Rng, Streams, FIRST, UNHANDLED};
 use type_formatter::TypeFormatterFlags;
 
 fn ours(streams: &Streams, call: Call, flags: u32, ptr_size: u8) -> Answer {
@@ -130,16 +130,29 @@ fn index(rng: &mut Rng, at: u32, count: u32, later: bool) -> u32 {
     }
 }
 
-// A class or union: a full one has a name of its own; a forward reference has that of a later record.
+// The name of a record: a number that no other has, in bytes that one in three are not UTF-8. `letter` is one that a code page has there: names that differ
+// in it alone are shown alike.
+fn own_name(of: u32, letter: u8) -> Vec<u8> {
+    let mut name = format!("loom::S{of}").into_bytes();
+    match of % 6 {
+        0 => name.push(letter),
+        1 => name.extend(raw_name(&mut Rng(of.into()))),
+        _ => {}
+    }
+    name
+}
+
+// A class or union: a full one has a name of its own; a forward reference has that of a later record, or now and then one that is only shown like it.
 fn named(rng: &mut Rng, at: u32, count: u32) -> Vec<u8> {
     let forward = rng.one_in(3) && at + 1 < count;
     let of = if forward { at + 1 + rng.below((count - at - 1) as usize) as u32 } else { at };
-    let (name, unique) = (format!("loom::S{of}"), format!(".?AUS{of}@@"));
-    let unique = if of % 2 == 0 { Some(unique.as_bytes()) } else { None };
+    let letter = if forward && rng.one_in(3) { 0xe8 } else { 0xe9 };
+    let (name, unique) = (own_name(of, letter), [b".?AU", &own_name(of, letter)[..], b"@@"].concat());
+    let unique = if of % 2 == 0 { Some(&unique[..]) } else { None };
     let size = if forward { 0 } else { rng.pick(&[0, 1, 4, 12, 24, 40_000, 70_000]) };
     match rng.below(4) {
-        0 => common::union(name.as_bytes(), unique, size, forward),
-        kind => common::class([0x1504, 0x1505, 0x1519][kind - 1], name.as_bytes(), unique, size, forward),
+        0 => common::union(&name, unique, size, forward),
+        kind => common::class([0x1504, 0x1505, 0x1519][kind - 1], &name, unique, size, forward),
     }
 }
 
@@ -164,8 +177,8 @@ fn random_type(rng: &mut Rng, at: u32, count: u32) -> Vec<u8> {
             common::arguments(&entries)
         }
         15 => common::array(index(rng, at, count, false), rng.pick(&[0, 8, 24, 96, 960, 80_000])),
-        16 => common::enumeration(format!("E{at}").as_bytes(), None, index(rng, at, count, false)),
-        17 => common::enumerate(format!("V{at}").as_bytes(), rng.below(100) as u16),
+        16 => common::enumeration(&raw_name(rng), None, index(rng, at, count, false)),
+        17 => common::enumerate(&raw_name(rng), rng.below(100) as u16),
         18 if rng.one_in(3) => common::record(0x1234, &[&[0; 4]]),
         _ => named(rng, at, count),
     }
@@ -173,7 +186,8 @@ fn random_type(rng: &mut Rng, at: u32, count: u32) -> Vec<u8> {
 
 fn random_id(rng: &mut Rng, at: u32, types: u32) -> Vec<u8> {
     let of = |rng: &mut Rng| FIRST + rng.below(types as usize) as u32;
-    let name = rng.pick(&["advance", "", "operator()", "?A0x1f", "?A0x+2", "?A0x", "纺织"]).as_bytes();
+    let raw = raw_name(rng);
+    let name = rng.pick(&[&raw[..], b"advance", b"", b"operator()", b"?A0x1f", b"?A0x+2", b"?A0x", b"?A0x1f\xe9", "纺织".as_bytes()]);
     match rng.below(8) {
         0..=2 => {
             let scope = if at == 0 || rng.one_in(2) { 0 } else { FIRST + rng.below(at as usize) as u32 };
