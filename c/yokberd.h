@@ -38,7 +38,7 @@ extern "C" {
 #endif
 
 #define YOKBERD_VERSION_MAJOR 0
-#define YOKBERD_VERSION_MINOR 3
+#define YOKBERD_VERSION_MINOR 4
 #define YOKBERD_VERSION_PATCH 0
 #define YOKBERD_VERSION "0.4.0"
 

@@ -6,8 +6,8 @@ pub const NAME_WIDTH: usize = 16;
 
 /// A list of commands, which [`TypeFormatter::sheet_lines`](crate::TypeFormatter::sheet_lines) answers, a line for each text or size.
 ///
-/// A line is its number from 1, the refusal or 0, its detail in hexadecimal, and then a space and the text or the decimal size, if there is one. A text has
-/// its bytes as they stand in the records, a line feed too; where such names may come, lines cannot be told apart and single calls are the way to ask.
+/// A line is its number from 1, the refusal or 0, its detail in hexadecimal, and then a space and the text or the decimal size, if there is one. A text may
+/// hold any character of a name, a line feed too; where such names may come, lines cannot be told apart and single calls are the way to ask.
 ///
 /// ```
 /// use yokberd::{Sheet, TypeFormatter, TypeFormatterFlags, TypeIndex};

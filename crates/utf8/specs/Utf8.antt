@@ -73,7 +73,7 @@ fitting (r ∷ rs) [] = 0
 fitting (r ∷ rs) (b ∷ bs) = pick (isIn r b) (suc (fitting rs bs)) 0
 
 -- The part that a first byte begins, by what may stand behind that byte and by the bytes that do. Whether it is a well-formed sequence; and how many bytes
--- behind the first are in it: "the longest run of bytes that is the beginning of a well-formed sequence, or one byte where there is none".
+-- behind the first are in it. One that is none is a maximal subpart: the longest beginning of a well-formed sequence, or the one byte that begins none.
 unfoldable pub isWhole : Option (List Range) → List ℕ → Bool
 isWhole none bs = false
 isWhole (some rs) bs = eqb (fitting rs bs) (length rs)

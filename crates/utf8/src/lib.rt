@@ -19,6 +19,7 @@ pub struct Part {
     pub whole: bool,
 }
 
+// A lead by its three numbers.
 fn asks(low: u8, high: u8, count: usize) -> Lead
     ensures { λ r. ⌜ r ≡ leadOf low high count ⌝ }
 {
