@@ -170,9 +170,9 @@ uint32_t yokberd_read_stream(const uint8_t *file, size_t file_len, uint32_t stre
  *   index           the index of the function's type, of the id, of the type
  *
  * Accepted: returns YOKBERD_ACCEPTED. *text_len is the length of the text, which is the first *text_len bytes of out; there is no closing zero, and the
- * bytes of out behind the text are as they were. *detail is 0. The text of an id or a type is well-formed UTF-8: in each name of a record the ill-formed parts
- * are replaced by the bytes EF BF BD (U+FFFD), as Unicode recommends; it may hold control characters, a line feed too. That of a function has `name` in it
- * byte for byte, and is UTF-8 where that is.
+ * bytes of out behind the text are as they were. *detail is 0. The text of an id or a type is well-formed UTF-8: in each name of a record the ill-formed
+ * parts are replaced by the bytes EF BF BD (U+FFFD), as Unicode recommends; it may hold control characters, a line feed too. That of a function has `name`
+ * in it byte for byte, and is UTF-8 where that is.
  *
  * Refused: returns the refusal's number, 1 to 15. *detail is its detail, *text_len is 0, and every byte of out is 0.
  */
