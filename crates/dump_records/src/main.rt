@@ -27,11 +27,9 @@ use files::say;
 use libc::STDERR_FILENO;
 use libc::STDOUT_FILENO;
 use streams::bounds::bounds_of;
-use streams::bounds::places_in;
-use streams::bounds::spacing_in;
-use streams::bounds::stream_in;
+use streams::bounds::look_up_in;
+use streams::bounds::store;
 use streams::chains::check_stream;
-use streams::places::look_up;
 use streams::refusal::Refusal;
 use streams::refusal::StreamKind;
 use streams::stream::Found;
@@ -280,14 +278,11 @@ fn id_line(s: &[u8], bounds: &[u32], places: &[u32], index: u32) {
 
 fn line(s: &[u8], bounds: &[u32], places: &[u32], which: StreamKind, index: u32) {
     hex(b"", index);
-    let near = places_in(bounds, places, which);
-    let l = spacing_in(bounds, which);
-    let stream = stream_in(bounds, which);
     if let Found::Record {
         kind,
         start: _,
         end: _,
-    } = look_up(s, near, l, stream, index) {
+    } = look_up_in(s, bounds, places, which, index) {
         hex(b" ", kind as u32);
     }
     match which {
@@ -305,19 +300,15 @@ fn lines(s: &[u8], bounds: &[u32], places: &[u32], which: StreamKind, first: u32
     }
 }
 
-// The one stream stands for both: its places are the types' or the ids'.
+// The one stream stands for both: its places are the types' and the ids'.
 fn table(s: &[u8], which: StreamKind) {
-    let mut places = [0u32; 256];
-    let a = check_stream(s, which, &mut places);
-    let split = match which {
-        StreamKind::Types => 256,
-        StreamKind::Ids => 0,
-    };
+    let mut kept = [0u32; 275];
+    let a = check_stream(s, which, &mut kept[19..]);
     let c = a.check;
     match c {
         StreamCheck::Good(stream) => {
-            let bounds = bounds_of(a, a, split);
-            lines(s, &bounds, &places, which, stream.first, stream.end);
+            store(&mut kept, bounds_of(a, a, 256));
+            lines(s, &kept, &kept[19..], which, stream.first, stream.end);
         }
         StreamCheck::Refused(f) => {
             decimal(b"refused ", f.number() as u64);

@@ -39,7 +39,7 @@ digit-large n h = simp (le-ltb _ _ h)
 
 -- The cases of a refusal but 7 and 8.
 abbrev pub noMark : List ℕ
-noMark = 0 ∷ 1 ∷ 2 ∷ 3 ∷ 4 ∷ 5 ∷ 8 ∷ 9 ∷ 10 ∷ 11 ∷ 12 ∷ 13 ∷ 14 ∷ 15 ∷ []
+noMark = 0 ∷ 1 ∷ 2 ∷ 3 ∷ 4 ∷ 5 ∷ 8 ∷ 9 ∷ 10 ∷ 11 ∷ 12 ∷ 13 ∷ 14 ∷ 15 ∷ 16 ∷ []
 
 -- The part of a name that is there.
 pub name-past : (s : List ℕ) (n : Name) → length s < n .start → take (length s - length s) (drop (length s) s) ≡ nameAt s n

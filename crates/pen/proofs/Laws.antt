@@ -48,6 +48,7 @@ refusal-back (refusal.TooManyOpen index) = refl
 refusal-back (refusal.ChainTooLong index) = refl
 refusal-back refusal.NoRoom = refl
 refusal-back (refusal.UnknownCommand command) = refl
+refusal-back (refusal.WrongPlace entry) = refl
 
 pub read-gone : (limit : ℕ) (f : Refusal) → readPen (gone limit f) ≡ ended limit f
 read-gone limit f = rw (refusal-back f)
@@ -56,7 +57,7 @@ pub stop-none : (p : Pen) → p .stop ≡ 0 → readPen p .stop ≡ No
 stop-none p e = rw e
 
 pub stop-some : (p : Pen) → (p .stop ≡ 0 → ⊥) → idle (readPen p .stop) ≡ true
-stop-some p h = rw (ne-eqb (p .stop) 0 h) (by (eqb (p .stop) 17))
+stop-some p h = rw (ne-eqb (p .stop) 0 h) (by (eqb (p .stop) 255))
   where
     by : (b : Bool) → idle (pick b (Missing (p .detail)) (Refused (refusalOf (p .stop) (p .detail)))) ≡ true
     by true = refl
@@ -226,7 +227,7 @@ unfolding missedPen
 finish-missing b p i = by (readPen p .stop) refl
   where
     by : (x : Stop) → readPen p .stop ≡ x
-        → readPage (page b (unlessStopped x (record { at = p .at; last = p .last; limit = p .limit; stop = 17; detail = i }) p)) ≡ under b (unlessStopped x (endAs (readPen p) (Missing i)) (readPen p))
+        → readPage (page b (unlessStopped x (record { at = p .at; last = p .last; limit = p .limit; stop = 255; detail = i }) p)) ≡ under b (unlessStopped x (endAs (readPen p) (Missing i)) (readPen p))
     by No e = refl
     by (Missing j) e = refl
     by (Refused g) e = refl
@@ -283,10 +284,11 @@ number-place (refusal.TooManyOpen index) = refl
 number-place (refusal.ChainTooLong index) = refl
 number-place refusal.NoRoom = refl
 number-place (refusal.UnknownCommand command) = refl
+number-place (refusal.WrongPlace entry) = refl
 
 -- The cases but 8.
 abbrev pub notMissing : List ℕ
-notMissing = 0 ∷ 1 ∷ 2 ∷ 3 ∷ 4 ∷ 5 ∷ 6 ∷ 8 ∷ 9 ∷ 10 ∷ 11 ∷ 12 ∷ 13 ∷ 14 ∷ 15 ∷ []
+notMissing = 0 ∷ 1 ∷ 2 ∷ 3 ∷ 4 ∷ 5 ∷ 6 ∷ 8 ∷ 9 ∷ 10 ∷ 11 ∷ 12 ∷ 13 ∷ 14 ∷ 15 ∷ 16 ∷ []
 
 pub not-number : (k : ℕ) (ks : List ℕ) (f : Refusal) → (OneOf ks k → ⊥) → OneOf ks (tagOf the-type f) → eqb (numberOf f) (suc k) ≡ false
 not-number k ks f h n =
@@ -451,11 +453,11 @@ pub wrote-byte : {g h : Page} {b : ℕ} → readPage h ≡ put (readPage g) b �
 wrote-byte {g} {h} {b} e = record { is = e ∙ sym (run-say (readPage g) (b ∷ []) ∙ ink-one (readPage g) b) }
 
 -- what catches, by the first of the pen's two numbers
-pub caught-goes : {b : List ℕ} (p : Pen) {q : Pen} {u : ℕ → Trace Refusal} {k : Page} → p .stop ≡ 17 → q ≡ resumed p → Wrote (page b q) (u (p .detail)) k → Caught (page b p) u k
+pub caught-goes : {b : List ℕ} (p : Pen) {q : Pen} {u : ℕ → Trace Refusal} {k : Page} → p .stop ≡ 255 → q ≡ resumed p → Wrote (page b q) (u (p .detail)) k → Caught (page b p) u k
 caught-goes {b} p {q} {u} {k} e f w = record { is = rw e (rw f at (w .is)) }
 
-pub caught-none : (b : List ℕ) (p : Pen) {u : ℕ → Trace Refusal} → (p .stop ≡ 17 → ⊥) → Caught (page b p) u (page b p)
-caught-none b p {u} h = record { is = by (eqb (p .stop) 0) (eqb (p .stop) 17) (ne-eqb (p .stop) 17 h) (readPage (page b p)) }
+pub caught-none : (b : List ℕ) (p : Pen) {u : ℕ → Trace Refusal} → (p .stop ≡ 255 → ⊥) → Caught (page b p) u (page b p)
+caught-none b p {u} h = record { is = by (eqb (p .stop) 0) (eqb (p .stop) 255) (ne-eqb (p .stop) 255 h) (readPage (page b p)) }
   where
     by : (x y : Bool) → y ≡ false → (g : PageRead) → g ≡ goOn (pick x No (pick y (Missing (p .detail)) (Refused (refusalOf (p .stop) (p .detail))))) u g
     by true y e g = refl

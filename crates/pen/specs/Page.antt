@@ -14,9 +14,9 @@ use Rattle.pen.specs.declared.Pen.{Pen}
 use Rattle.pen.specs.declared.Stop.{Stop}
 use Rattle.pen.specs.declared.Stop.the-variants.{No, Missing, Refused}
 
--- Why a pen has stopped, by its two numbers: 0, it has not; 17, which no refusal has, an index is missing; any other is a refusal's.
+-- Why a pen has stopped, by its two numbers: 0, it has not; 255, which no refusal has, an index is missing; any other is a refusal's.
 abbrev pub stopIn : ℕ → ℕ → Stop
-stopIn n d = pick (eqb n 0) No (pick (eqb n 17) (Missing d) (Refused (refusalOf n d)))
+stopIn n d = pick (eqb n 0) No (pick (eqb n 255) (Missing d) (Refused (refusalOf n d)))
 
 -- a pen, read
 pub record PenRead : Type 0 where
@@ -160,7 +160,7 @@ refusedPen p f = unlessStopped (readPen p .stop) (gone (p .limit) f) p
 
 -- A pen that has not stopped ends its text at a missing index.
 unfoldable pub missedPen : Pen → ℕ → Pen
-missedPen p i = unlessStopped (readPen p .stop) (record { at = p .at; last = p .last; limit = p .limit; stop = 17; detail = i }) p
+missedPen p i = unlessStopped (readPen p .stop) (record { at = p .at; last = p .last; limit = p .limit; stop = 255; detail = i }) p
 
 -- What could not be read inside a type: a missing record ends the text, anything else is refused. The pen, and the trace.
 unfoldable pub unreadPen : Pen → Refusal → Pen

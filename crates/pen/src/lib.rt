@@ -19,7 +19,7 @@ pub enum Stop {
 }
 
 // What no refusal has as its number: an index is missing, and the text that is being written ends.
-pub const MISSING: u32 = 17;
+pub const MISSING: u32 = 255;
 
 pub struct Pen {
     pub at: usize,
@@ -47,7 +47,7 @@ pub fn stop_of(p: Pen) -> Stop
     let detail = p.detail;
     match stop {
         0 => Stop::No,
-        17 => Stop::Missing(detail),
+        255 => Stop::Missing(detail),
         _ => Stop::Refused(Refusal::of(stop, detail)),
     }
 }

@@ -19,7 +19,6 @@ use codeview::record::UniqueName;
 use codeview::types::class;
 use codeview::types::union_type;
 use leaf_writers::names::name_of;
-use streams::bounds::places_in;
 use streams::bounds::spacing_in;
 use streams::bounds::stream_in;
 use streams::places::Spacing;
@@ -240,7 +239,6 @@ pub fn get_size_for_forward_reference(
 {
     let stream = stream_in(bounds, StreamKind::Types);
     let l = spacing_in(bounds, StreamKind::Types);
-    let by = places_in(bounds, places, StreamKind::Types);
     let i = index.0;
     let end = stream.end;
     if end <= i {
@@ -249,7 +247,7 @@ pub fn get_size_for_forward_reference(
     let first = stream.first;
     let mut at = later(later(i + 1, 0x1000), first);
     while at < end {
-        let from = start_of(by, l, stream, at);
+        let from = start_of(places, l, stream, at);
         let stop = stretch_end(l, stream, at);
         if let FullRead::Full(size) = full_between(types, stream, from, at, stop, name) {
             return size;

@@ -193,7 +193,7 @@ size-ends size types index =
     (tied-refusal (refusal₀.PointerSize size)) .ends
 
 -- Every answer is a text or a refusal of the table, and each refusal has a number of it.
-pub numbered : (f : Refusal) → (1 ≤ numberOf f) × (numberOf f ≤ 16)
+pub numbered : (f : Refusal) → (1 ≤ numberOf f) × (numberOf f ≤ 17)
 numbered (refusal₀.UnknownFlags flags) = omega arith
 numbered (refusal₀.PointerSize size) = omega arith
 numbered (refusal₀.Header stream) = omega arith
@@ -210,6 +210,7 @@ numbered (refusal₀.TooManyOpen index) = omega arith
 numbered (refusal₀.ChainTooLong index) = omega arith
 numbered refusal₀.NoRoom = omega arith
 numbered (refusal₀.UnknownCommand command) = omega arith
+numbered (refusal₀.WrongPlace entry) = omega arith
 
 pub answered : (room : ℕ) (s : Trace Refusal) → ((bs : List ℕ) × (n : ℕ) × (within room s ≡ text bs n)) ⊎ ((f : Refusal) × (within room s ≡ stopped f))
 answered room s = go (within room s) refl

@@ -11,3 +11,4 @@ pub mod Ids
 pub mod Opening
 pub mod Call
 pub mod Places
+pub mod Placed

@@ -1,12 +1,13 @@
 -- Laws of the numbers in which a check is kept: what is noted of a check is read back. Assumes nothing.
 use Prim.Native.Nat.{ℕ, zero, suc, _+_, _-_, _≤_, _<_, min}
 use native.Mathlib.Nat.{not-suc-le-zero, zero-min, suc-min-suc}
+use native.Mathlib.Numerals.{add-one}
 use native.Mathlib.Omega.{arith}
 use mathlib.Core.Path.{_≡_, refl, sym, _∙_, ap}
 use mathlib.Core.Bool.{Bool, true, false}
-use mathlib.Core.List.{List, [], _∷_, _++_}
-use lib.ListN.{length, take, drop, getD, drop-of-length-le, length-drop}
-use lib.Seq.{take-all}
+use mathlib.Core.List.{List, [], _∷_, _++_, append-assoc}
+use lib.ListN.{length, take, drop, getD, set, drop-of-length-le, length-take, length-drop}
+use lib.Seq.{take-all, take-suc, drop-cons, set-at}
 use lib.Dec.{leb, eqb}
 use Rattle.wire.specs.Field.{pick}
 use Rattle.streams.specs.Stream.{header, tiled, none, noIds, headless, checked}
@@ -77,39 +78,54 @@ module _ (ns : List ℕ) (which : StreamKind) where
   state-header e = rw e
 
 -- What is read back of a good check is its stream and its spacing; of any check its answer.
-module _ (a b : NotedCheck) (split : ℕ) where
-  pub types-back : (s : List ℕ) → a .check ≡ checked Types s → (t : Stream) → a .check ≡ Good t → streamIn (boundsOf a b split) Types ≡ t
+module _ (a b : NotedCheck) (count : ℕ) (qs : List ℕ) where
+  pub types-back : (s : List ℕ) → a .check ≡ checked Types s → (t : Stream) → a .check ≡ Good t → streamIn (boundsOf a b count ++ qs) Types ≡ t
   unfolding streamIn startOf boundsOf streamOf
   types-back s e t h = rw h (ap (λ (n : ℕ). record { first = t .first; end = t .end; stop = n }) (by-check Types s (λ c. c ≡ Good t → min (t .stop) 0xffff_ffff ≡ t .stop) (λ u f q. let w : u ≡ t = cc in rw (sym w) (f .fits)) (λ q. let w : _≡_ {A = ℕ} 0 1 = cc in absurd (omega arith)) (λ q. let w : _≡_ {A = ℕ} 0 1 = cc in absurd (omega arith)) (sym e ∙ h)))
 
-  pub ids-back : (s : List ℕ) → b .check ≡ checked Ids s → (t : Stream) → b .check ≡ Good t → streamIn (boundsOf a b split) Ids ≡ t
+  pub ids-back : (s : List ℕ) → b .check ≡ checked Ids s → (t : Stream) → b .check ≡ Good t → streamIn (boundsOf a b count ++ qs) Ids ≡ t
   unfolding streamIn startOf boundsOf streamOf
   ids-back s e t h = rw h (ap (λ (n : ℕ). record { first = t .first; end = t .end; stop = n }) (by-check Ids s (λ c. c ≡ Good t → min (t .stop) 0xffff_ffff ≡ t .stop) (λ u f q. let w : u ≡ t = cc in rw (sym w) (f .fits)) (λ q. let w : _≡_ {A = ℕ} 0 1 = cc in absurd (omega arith)) (λ q. let w : _≡_ {A = ℕ} 0 1 = cc in absurd (omega arith)) (sym e ∙ h)))
 
-  pub types-spacing : spacingIn (boundsOf a b split) Types ≡ a .spacing
+  pub types-spacing : spacingIn (boundsOf a b count ++ qs) Types ≡ a .spacing
   unfolding spacingIn startOf boundsOf
   types-spacing = refl
 
-  pub ids-spacing : spacingIn (boundsOf a b split) Ids ≡ b .spacing
+  pub ids-spacing : spacingIn (boundsOf a b count ++ qs) Ids ≡ b .spacing
   unfolding spacingIn startOf boundsOf
   ids-spacing = refl
 
-  types-state : {c : StreamCheck} → a .check ≡ c → getD (boundsOf a b split) (startOf Types) 0 ≡ stateOf c
+  types-state : {c : StreamCheck} → a .check ≡ c → getD (boundsOf a b count ++ qs) (startOf Types) 0 ≡ stateOf c
   unfolding startOf boundsOf
   types-state h = ap (λ (c : StreamCheck). stateOf c) h
 
-  ids-state : {c : StreamCheck} → b .check ≡ c → getD (boundsOf a b split) (startOf Ids) 0 ≡ stateOf c
+  ids-state : {c : StreamCheck} → b .check ≡ c → getD (boundsOf a b count ++ qs) (startOf Ids) 0 ≡ stateOf c
   unfolding startOf boundsOf
   ids-state h = ap (λ (c : StreamCheck). stateOf c) h
 
-  pub types-check : (s : List ℕ) → a .check ≡ checked Types s → checkIn (boundsOf a b split) Types ≡ a .check
+  pub types-check : (s : List ℕ) → a .check ≡ checked Types s → checkIn (boundsOf a b count ++ qs) Types ≡ a .check
   types-check s e =
-      by-check Types s (λ c. a .check ≡ c → checkIn (boundsOf a b split) Types ≡ c)
-      (λ t f h. state-good (boundsOf a b split) Types t (types-state h) ∙ ap (λ (t : Stream). Good t) (types-back s e t h))
-      (λ h. state-tiling (boundsOf a b split) Types (types-state h)) (λ h. state-header (boundsOf a b split) Types (types-state h)) e ∙ sym e
+      by-check Types s (λ c. a .check ≡ c → checkIn (boundsOf a b count ++ qs) Types ≡ c)
+      (λ t f h. state-good (boundsOf a b count ++ qs) Types t (types-state h) ∙ ap (λ (t : Stream). Good t) (types-back s e t h))
+      (λ h. state-tiling (boundsOf a b count ++ qs) Types (types-state h)) (λ h. state-header (boundsOf a b count ++ qs) Types (types-state h)) e ∙ sym e
 
-  pub ids-check : (s : List ℕ) → b .check ≡ checked Ids s → checkIn (boundsOf a b split) Ids ≡ b .check
+  pub ids-check : (s : List ℕ) → b .check ≡ checked Ids s → checkIn (boundsOf a b count ++ qs) Ids ≡ b .check
   ids-check s e =
-      by-check Ids s (λ c. b .check ≡ c → checkIn (boundsOf a b split) Ids ≡ c)
-      (λ t f h. state-good (boundsOf a b split) Ids t (ids-state h) ∙ ap (λ (t : Stream). Good t) (ids-back s e t h))
-      (λ h. state-tiling (boundsOf a b split) Ids (ids-state h)) (λ h. state-header (boundsOf a b split) Ids (ids-state h)) e ∙ sym e
+      by-check Ids s (λ c. b .check ≡ c → checkIn (boundsOf a b count ++ qs) Ids ≡ c)
+      (λ t f h. state-good (boundsOf a b count ++ qs) Ids t (ids-state h) ∙ ap (λ (t : Stream). Good t) (ids-back s e t h))
+      (λ h. state-tiling (boundsOf a b count ++ qs) Ids (ids-state h)) (λ h. state-header (boundsOf a b count ++ qs) Ids (ids-state h)) e ∙ sym e
+
+  pub ids-behind : placesIn (boundsOf a b count ++ qs) [] Ids ≡ qs
+  unfolding placesIn boundsOf
+  ids-behind = refl
+
+-- One number more is stored.
+pub store-next : (b c : List ℕ) (i : ℕ) → i < length b → i < length c → set (take i b ++ drop i c) i (getD b i 0) ≡ take (i + 1) b ++ drop (i + 1) c
+store-next b c i h j =
+    ap (λ (r : List ℕ). set (take i b ++ r) i (getD b i 0)) (drop-cons c i 0 j)
+    ∙ set-at (take i b) (getD c i 0) (drop (suc i) c) (getD b i 0) i (omega (arith, length-take i b))
+    ∙ sym (ap (λ (n : ℕ). take n b ++ drop n c) (add-one i) ∙ ap (λ (r : List ℕ). r ++ drop (suc i) c) (take-suc b i 0 h) ∙ append-assoc (take i b) (getD b i 0 ∷ []) (drop (suc i) c))
+
+-- All are.
+pub store-all : (b c : List ℕ) (i : ℕ) → length b ≡ 19 → i ≡ 19 → take i b ++ drop i c ≡ b ++ drop 19 c
+store-all b c i e h = rw (h, take-all 19 b (omega arith))

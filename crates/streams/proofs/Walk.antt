@@ -35,12 +35,12 @@ module _ {A : Type 0} (P : A → Type 0) (s : List ℕ) where
       go true false c e h = p
       go false b c e h = p
 
-  passed-all : (n at : ℕ) (k : ℕ → A) (z : A) → ((next : ℕ) → P (k next)) → P z → P (passed n s at k z)
+  pub passed-all : (n at : ℕ) (k : ℕ → A) (z : A) → ((next : ℕ) → P (k next)) → P z → P (passed n s at k z)
   unfolding passed
   passed-all zero at k z f p = f at
   passed-all (suc n) at k z f p = behind-all at (λ at. passed n s at k z) z (λ next h i. passed-all n next k z f p) p
 
-  recordAt-all : (at : ℕ) (k : ℕ → ℕ → ℕ → A) (z : A) → ((kind start end : ℕ) → start ≤ end → end ≤ length s → P (k kind start end)) → P z → P (recordAt s at k z)
+  pub recordAt-all : (at : ℕ) (k : ℕ → ℕ → ℕ → A) (z : A) → ((kind start end : ℕ) → start ≤ end → end ≤ length s → P (k kind start end)) → P z → P (recordAt s at k z)
   unfolding recordAt field
   recordAt-all at k z f p =
       behind-all at (λ next. field 2 s (at + 2) (λ kind. k kind (at + 4) next) z) z
@@ -56,14 +56,14 @@ module _ {A B : Type 0} (f : A → B) (s : List ℕ) where
   unfolding behind
   map-behind at k z = simp (map-field f, map-pick f)
 
-  map-passed : (n at : ℕ) (k : ℕ → A) (z : A) → f (passed n s at k z) ≡ passed n s at (λ n. f (k n)) (f z)
+  pub map-passed : (n at : ℕ) (k : ℕ → A) (z : A) → f (passed n s at k z) ≡ passed n s at (λ n. f (k n)) (f z)
   unfolding passed
   map-passed zero at k z = refl
   map-passed (suc n) at k z =
       map-behind at (λ at. passed n s at k z) z
       ∙ ap (λ (g : ℕ → B). behind s at g (f z)) (fun-ext (λ at. map-passed n at k z))
 
-  map-record : (at : ℕ) (k : ℕ → ℕ → ℕ → A) (z : A) → f (recordAt s at k z) ≡ recordAt s at (λ a b c. f (k a b c)) (f z)
+  pub map-record : (at : ℕ) (k : ℕ → ℕ → ℕ → A) (z : A) → f (recordAt s at k z) ≡ recordAt s at (λ a b c. f (k a b c)) (f z)
   unfolding recordAt
   map-record at k z =
       map-behind at (λ next. field 2 s (at + 2) (λ kind. k kind (at + 4) next) z) z
@@ -196,21 +196,21 @@ look-within s t from i e kind start end h =
     none q = let w : _≡_ {A = ℕ} 0 1 = cc in absurd (omega arith)
 
 -- Whatever holds of every answer that a whole header can give, and of the answer to a broken one, holds of what follows from a header.
-module _ {A : Type 0} (P : A → Type 0) (s : List ℕ) (k : ℕ → ℕ → ℕ → A) (z : A) (f : (first end stop : ℕ) → first ≤ end → stop ≤ length s → P (k first end stop)) (p : P z) where
+module _ {A : Type 0} (P : A → Type 0) (s : List ℕ) (k : ℕ → ℕ → ℕ → A) (z : A) (f : (first end stop : ℕ) → first ≤ end → end ≤ 0x8000_0000 → stop ≤ length s → P (k first end stop)) (p : P z) where
   indexes-all : 56 ≤ length s → P (indexes s k z)
   unfolding indexes
   indexes-all h =
       all-field P 4 s 8 _ z
       (λ first i. all-field P 4 s 12 _ z
       (λ end j. all-field P 4 s 16 _ z
-      (λ bytes l. go first end bytes (leb 0x1000 first) (leb first end) (leb end 0x8000_0000) (leb bytes (length s - 56)) refl refl) p) p) p
+      (λ bytes l. go first end bytes (leb 0x1000 first) (leb first end) (leb end 0x8000_0000) (leb bytes (length s - 56)) refl refl refl) p) p) p
     where
-      go : (first end bytes : ℕ) (a b c d : Bool) → leb first end ≡ b → leb bytes (length s - 56) ≡ d → P (pick a (pick b (pick c (pick d (k first end (56 + bytes)) z) z) z) z)
-      go first end bytes true true true true e i = f first end (56 + bytes) (leb-true first end e) (omega (arith, leb-true bytes (length s - 56) i))
-      go first end bytes true true true false e i = p
-      go first end bytes true true false d e i = p
-      go first end bytes true false c d e i = p
-      go first end bytes false b c d e i = p
+      go : (first end bytes : ℕ) (a b c d : Bool) → leb first end ≡ b → leb end 0x8000_0000 ≡ c → leb bytes (length s - 56) ≡ d → P (pick a (pick b (pick c (pick d (k first end (56 + bytes)) z) z) z) z)
+      go first end bytes true true true true e j i = f first end (56 + bytes) (leb-true first end e) (leb-true end 0x8000_0000 j) (omega (arith, leb-true bytes (length s - 56) i))
+      go first end bytes true true true false e j i = p
+      go first end bytes true true false d e j i = p
+      go first end bytes true false c d e j i = p
+      go first end bytes false b c d e j i = p
 
   header-all : P (header s k z)
   unfolding header
@@ -240,7 +240,13 @@ module _ (s : List ℕ) {r : Head} (e : r ≡ header s head.Good head.Broken) wh
   pub header-within : (a b c : ℕ) → r ≡ head.Good a b c → (a ≤ b) × (c ≤ length s)
   header-within a b c h =
       header-all (λ (r : Head). r ≡ head.Good a b c → (a ≤ b) × (c ≤ length s)) s head.Good head.Broken
-      (λ x y z i j q. let u : x ≡ a = cc in let v : y ≡ b = cc in let w : z ≡ c = cc in (omega arith, omega arith))
+      (λ x y z i l j q. let u : x ≡ a = cc in let v : y ≡ b = cc in let w : z ≡ c = cc in (omega arith, omega arith))
+      (λ q. let w : _≡_ {A = ℕ} 0 1 = cc in absurd (omega arith)) (sym e ∙ h)
+
+  pub header-end : (a b c : ℕ) → r ≡ head.Good a b c → b ≤ 0x8000_0000
+  header-end a b c h =
+      header-all (λ (r : Head). r ≡ head.Good a b c → b ≤ 0x8000_0000) s head.Good head.Broken
+      (λ x y z i l j q. let v : y ≡ b = cc in omega arith)
       (λ q. let w : _≡_ {A = ℕ} 0 1 = cc in absurd (omega arith)) (sym e ∙ h)
 
 pub header-small : (s : List ℕ) {r : Head} → r ≡ header s head.Good head.Broken → (a b c : ℕ) → r ≡ head.Good a b c → length s ≤ 16_777_216

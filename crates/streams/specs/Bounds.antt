@@ -1,8 +1,9 @@
 -- What the checks of a call's two streams found, as numbers in a list: so it is lent to the writers beside the places, and kept by a caller for later calls. Of
--- each stream there are nine, the types' before the ids'; then follows how many of the places are the types'. Any list of numbers says something.
+-- each stream there are nine, the types' before the ids'; then follow how many places of the ids there are, and these. The types' places are a list by
+-- themselves, so that a caller may lend them. Any list of numbers says something.
 use Prim.Native.Nat.{ℕ, _+_, min}
 use mathlib.Core.List.{List, [], _∷_}
-use lib.ListN.{take, drop, getD}
+use lib.ListN.{drop, getD}
 use lib.Dec.{eqb}
 use Rattle.wire.specs.Field.{pick}
 use Rattle.streams.specs.Refusal.{numberOf}
@@ -48,8 +49,8 @@ checkIn ns which =
 
 -- The places of a stream.
 unfoldable pub placesIn : List ℕ → List ℕ → StreamKind → List ℕ
-placesIn ns ps stream.Types = take (getD ns 18 0) ps
-placesIn ns ps stream.Ids = drop (getD ns 18 0) ps
+placesIn ns ps stream.Types = ps
+placesIn ns ps stream.Ids = drop 19 ns
 
 -- What is noted of a check: its answer, then the bounds and the spacing.
 unfoldable pub stateOf : StreamCheck → ℕ
@@ -66,6 +67,6 @@ numbersBefore state t l rest =
     state ∷ t .first ∷ t .end ∷ min (t .stop) 0xffff_ffff ∷ l .stride ∷ l .room ∷ l .second ∷ l .third ∷ l .fourth ∷ rest
 
 unfoldable pub boundsOf : NotedCheck → NotedCheck → ℕ → List ℕ
-boundsOf a b split =
+boundsOf a b count =
     numbersBefore (stateOf (a .check)) (streamOf (a .check)) (a .spacing)
-    (numbersBefore (stateOf (b .check)) (streamOf (b .check)) (b .spacing) (split ∷ []))
+    (numbersBefore (stateOf (b .check)) (streamOf (b .check)) (b .spacing) (count ∷ []))

@@ -1,4 +1,4 @@
--- The refusals (document 01, "What a call answers"): the number and the one detail of each.
+-- The refusals (document 01, "What a call answers"; document 02 for those it adds): the number and the one detail of each.
 use Prim.Native.Nat.{ℕ}
 use lib.Dec.{eqb}
 use Rattle.wire.specs.Field.{pick}
@@ -22,6 +22,7 @@ use Rattle.streams.specs.declared.refusal.Refusal.the-variants.{
   ChainTooLong,
   NoRoom,
   UnknownCommand,
+  WrongPlace,
 }
 
 -- The detail of a refused stream: 0 types, 1 ids.
@@ -29,7 +30,7 @@ abbrev pub streamDetail : StreamKind → ℕ
 streamDetail stream.Types = 0
 streamDetail stream.Ids = 1
 
--- The number of each row of the table.
+-- The number of each row of the table; "New: 17, an entry lacking or not that of this stream, detail the number of the first from 0" (Note 3).
 abbrev pub numberOf : Refusal → ℕ
 numberOf (UnknownFlags flags) = 1
 numberOf (PointerSize size) = 2
@@ -47,6 +48,7 @@ numberOf (TooManyOpen index) = 13
 numberOf (ChainTooLong index) = 14
 numberOf NoRoom = 15
 numberOf (UnknownCommand command) = 16
+numberOf (WrongPlace entry) = 17
 
 -- The detail of each row.
 abbrev pub detailOf : Refusal → ℕ
@@ -66,6 +68,7 @@ detailOf (TooManyOpen index) = index
 detailOf (ChainTooLong index) = index
 detailOf NoRoom = 0
 detailOf (UnknownCommand command) = command
+detailOf (WrongPlace entry) = entry
 
 -- The refusal of a number with a detail. (A number of none counts as 16, so that each number has one.)
 abbrev pub streamOfDetail : ℕ → StreamKind
@@ -88,4 +91,5 @@ refusalOf n d =
     (pick (eqb n 13) (TooManyOpen d)
     (pick (eqb n 14) (ChainTooLong d)
     (pick (eqb n 15) NoRoom
-    (UnknownCommand d)))))))))))))))
+    (pick (eqb n 17) (WrongPlace d)
+    (UnknownCommand d))))))))))))))))

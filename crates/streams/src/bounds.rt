@@ -1,7 +1,8 @@
-// What the checks of a call's two streams found, as 19 numbers: nine of the types, nine of the ids, and how many of the places are the types'.
+// What the checks of a call's two streams found, as 19 numbers: nine of the types, nine of the ids, and how many places of the ids stand behind them.
 ghost use mathlib.Core.Path.{_≡_};
+ghost use mathlib.Core.List.{_++_};
 ghost use Prim.Native.Nat.{_≤_, min};
-ghost use lib.ListN.{getD};
+ghost use lib.ListN.{length, drop, getD};
 ghost use Rattle.streams.specs.Stream.{lookFrom};
 ghost use Rattle.streams.specs.Places.{nearest};
 ghost use Rattle.streams.specs.declared.stream.Found.the-variants as found;
@@ -17,11 +18,11 @@ use crate::stream::Found;
 use crate::stream::Stream;
 use crate::stream::StreamCheck;
 use crate::stream::no_stream;
-use crate::stream::record_behind;
+use crate::stream::record_from;
 use wire::bytes::shorter;
 
 // A number of a list; 0 past its end.
-fn number_at(numbers: &[u32], k: usize) -> u32
+pub fn number_at(numbers: &[u32], k: usize) -> u32
     ensures { λ r. ⌜ r ≡ getD (now (numbers .entry)) k 0 ⌝ }
 {
     if k < numbers.len() {
@@ -99,23 +100,19 @@ pub fn check_in(bounds: &[u32], which: StreamKind) -> StreamCheck
     StreamCheck::Refused(Refusal::Header(which))
 }
 
-// The places of a stream.
-pub fn places_in<'a>(bounds: &[u32], places: &'a [u32], which: StreamKind) -> &'a [u32]
-    ensures { λ r. ⌜ now (r) ≡ placesIn (now (bounds .entry)) (now (places .entry)) which ⌝ }
+// The places of the ids, which stand behind the numbers.
+fn id_places<'a>(bounds: &'a [u32]) -> &'a [u32]
+    ensures { λ r. ⌜ now (r) ≡ drop 19 (now (bounds .entry)) ⌝ }
 {
-    let split = shorter(wide(number_at(bounds, 18)), places.len());
-    match which {
-        StreamKind::Types => &places[..split],
-        StreamKind::Ids => &places[split..],
-    }
+    let split = shorter(19, bounds.len());
+    &bounds[split..]
 }
 
-// The record of an index: in the stream, and by the places, that the numbers tell of.
-pub fn look_up_in(s: &[u8], bounds: &[u32], places: &[u32], which: StreamKind, index: u32) -> Found
-    ensures { λ r. ⌜ r ≡ lookFrom (now (s .entry)) (streamIn (now (bounds .entry)) which) (nearest (spacingIn (now (bounds .entry)) which) (placesIn (now (bounds .entry)) (now (places .entry)) which) (streamIn (now (bounds .entry)) which) index) index found.Record found.Missing found.CrossModule ⌝ }
+// The record of an index: in the stream that the numbers tell of, by its places.
+fn look_up_by(s: &[u8], bounds: &[u32], near: &[u32], which: StreamKind, index: u32) -> Found
+    ensures { λ r. ⌜ r ≡ lookFrom (now (s .entry)) (streamIn (now (bounds .entry)) which) (nearest (spacingIn (now (bounds .entry)) which) (now (near .entry)) (streamIn (now (bounds .entry)) which) index) index found.Record found.Missing found.CrossModule ⌝ }
 {
     let k = start_of(which);
-    let near = places_in(bounds, places, which);
     if bounds.len() < 19 {
         return look_up(
             s,
@@ -146,7 +143,17 @@ pub fn look_up_in(s: &[u8], bounds: &[u32], places: &[u32], which: StreamKind, i
         n,
     );
     let stop = shorter(wide(bounds[k + 3]), s.len());
-    record_behind(&s[..stop], m.place, n - m.number)
+    record_from(&s[..stop], m.place, n - m.number)
+}
+
+// The record of an index: in the stream, and by the places, that the numbers tell of.
+pub fn look_up_in(s: &[u8], bounds: &[u32], places: &[u32], which: StreamKind, index: u32) -> Found
+    ensures { λ r. ⌜ r ≡ lookFrom (now (s .entry)) (streamIn (now (bounds .entry)) which) (nearest (spacingIn (now (bounds .entry)) which) (placesIn (now (bounds .entry)) (now (places .entry)) which) (streamIn (now (bounds .entry)) which) index) index found.Record found.Missing found.CrossModule ⌝ }
+{
+    match which {
+        StreamKind::Types => look_up_by(s, bounds, places, StreamKind::Types, index),
+        StreamKind::Ids => look_up_by(s, bounds, id_places(bounds), StreamKind::Ids, index),
+    }
 }
 
 fn state_of(c: StreamCheck) -> u32
@@ -177,9 +184,9 @@ fn narrow(n: usize) -> u32
     }
 }
 
-// What both checks found; the first `split` places are the types'.
-pub fn bounds_of(a: NotedCheck, b: NotedCheck, split: u32) -> [u32; 19]
-    ensures { λ r. ⌜ r ≡ boundsOf a b split ⌝ }
+// What both checks found; so many places of the ids follow.
+pub fn bounds_of(a: NotedCheck, b: NotedCheck, count: u32) -> [u32; 19]
+    ensures { λ r. ⌜ r ≡ boundsOf a b count ⌝ }
 {
     let c = a.check;
     let l = a.spacing;
@@ -206,6 +213,18 @@ pub fn bounds_of(a: NotedCheck, b: NotedCheck, split: u32) -> [u32; 19]
         m.second,
         m.third,
         m.fourth,
-        split,
+        count,
     ]
+}
+
+// The numbers are put at the start of a buffer.
+pub fn store(kept: &mut [u32], numbers: [u32; 19])
+    requires { ⌜ (19 ≤ length (now kept)) × (length numbers ≡ 19) ⌝ }
+    ensures { λ _. ⌜ now (kept .exit) ≡ numbers ++ drop 19 (now (kept .entry)) ⌝ }
+{
+    let mut i = 0;
+    while i < 19 {
+        kept[i] = numbers[i];
+        i += 1;
+    }
 }

@@ -241,7 +241,7 @@ fn in_step_to_end(
 }
 
 // The same, from anywhere to anywhere: no step where a chain is not before its goal.
-fn stretch(
+pub fn stretch(
     s: &[u8],
     a: usize,
     b: usize,

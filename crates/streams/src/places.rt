@@ -16,7 +16,7 @@ use crate::stream::StreamCheck;
 use crate::stream::behind_records;
 use crate::stream::header_of;
 use crate::stream::no_stream;
-use crate::stream::record_behind;
+use crate::stream::record_from;
 use crate::stream::records_of;
 
 // How places are laid out: in four parts of `room` entries, each with the place of every `stride`-th record of its own, and the numbers of the records
@@ -228,11 +228,11 @@ pub fn look_up(s: &[u8], places: &[u32], l: Spacing, stream: Stream, index: u32)
     }
     let n = index - first;
     let m = mark_by(places, l, n);
-    record_behind(records_of(s, stream), m.place, n - m.number)
+    record_from(records_of(s, stream), m.place, n - m.number)
 }
 
 // The place behind `count` records from a place on; the places of every `stride`-th of them are noted, as many as there is room for.
-fn behind_noting(s: &[u8], from: usize, count: u32, stride: u32, places: &mut [u32]) -> Place
+pub fn behind_noting(s: &[u8], from: usize, count: u32, stride: u32, places: &mut [u32]) -> Place
     requires { ⌜ (length (now s) < 0x1_0000_0000) × (from < 0x1_0000_0000) × (0 < stride) ⌝ }
     ensures { λ r. ⌜ Noted (now (s .entry)) from count stride (now (places .entry)) (now (places .exit)) r ⌝ }
 {

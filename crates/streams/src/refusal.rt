@@ -1,4 +1,4 @@
-// Why a call is refused: the cases of document 01's table, each with its number and its one detail.
+// Why a call is refused: the cases of document 01's table and those that document 02 adds, each with its number and its one detail.
 ghost use mathlib.Core.Path.{_≡_};
 ghost use Rattle.streams.specs.Refusal.{streamDetail, numberOf, detailOf, streamOfDetail, refusalOf};
 
@@ -25,6 +25,7 @@ pub enum Refusal {
     ChainTooLong(u32),
     NoRoom,
     UnknownCommand(u32),
+    WrongPlace(u32),
 }
 
 impl StreamKind {
@@ -68,6 +69,7 @@ impl Refusal {
             13 => Refusal::TooManyOpen(detail),
             14 => Refusal::ChainTooLong(detail),
             15 => Refusal::NoRoom,
+            17 => Refusal::WrongPlace(detail),
             _ => Refusal::UnknownCommand(detail),
         }
     }
@@ -92,6 +94,7 @@ impl Refusal {
             Refusal::ChainTooLong(_) => 14,
             Refusal::NoRoom => 15,
             Refusal::UnknownCommand(_) => 16,
+            Refusal::WrongPlace(_) => 17,
         }
     }
 
@@ -115,6 +118,7 @@ impl Refusal {
             Refusal::ChainTooLong(index) => index,
             Refusal::NoRoom => 0,
             Refusal::UnknownCommand(command) => command,
+            Refusal::WrongPlace(entry) => entry,
         }
     }
 }

@@ -188,15 +188,15 @@ pub fn record_at(s: &[u8], at: usize) -> Found
     }
 }
 
-// The record behind `count` others from a place on. What is past the end of the stream is missed when the next record is read.
-pub fn record_behind(s: &[u8], from: usize, count: u32) -> Found
-    ensures { λ r. ⌜ r ≡ passed count (now (s .entry)) from (λ at. recordAt (now (s .entry)) at found.Record found.Missing) found.Missing ⌝ }
+// The record behind `count` others from the start. What is past the end of the stream is missed when the next record is read.
+fn record_behind(s: &[u8], count: u32) -> Found
+    ensures { λ r. ⌜ r ≡ passed count (now (s .entry)) 0 (λ at. recordAt (now (s .entry)) at found.Record found.Missing) found.Missing ⌝ }
 {
     if s.len() < 4 {
         return Found::Missing;
     }
     let last = s.len() - 4;
-    let mut at = from;
+    let mut at = 0;
     let mut left = count;
     while 0 < left {
         if last < at {
@@ -210,6 +210,37 @@ pub fn record_behind(s: &[u8], from: usize, count: u32) -> Found
         left -= 1;
     }
     record_at(s, at)
+}
+
+// The record behind `count` others from a place on. The search is handed the stream only from there on.
+pub fn record_from(s: &[u8], from: usize, count: u32) -> Found
+    ensures { λ r. ⌜ r ≡ passed count (now (s .entry)) from (λ at. recordAt (now (s .entry)) at found.Record found.Missing) found.Missing ⌝ }
+{
+    if s.len() < from {
+        return Found::Missing;
+    }
+    match record_behind(&s[from..], count) {
+        Found::Record { kind, start, end } => Found::Record {
+            kind,
+            start: from + start,
+            end: from + end,
+        },
+        Found::Missing => Found::Missing,
+        Found::CrossModule => Found::CrossModule,
+    }
+}
+
+// The place behind `count` records from a place on. They are passed in the stream only from there on.
+fn behind_from(s: &[u8], from: usize, count: u32) -> Place
+    ensures { λ r. ⌜ r ≡ passed count (now (s .entry)) from At Beyond ⌝ }
+{
+    if s.len() < from {
+        return behind_records(s, from, count);
+    }
+    let Place::At(at) = behind_records(&s[from..], 0, count) else {
+        return Place::Beyond;
+    };
+    Place::At(from + at)
 }
 
 // The part of a stream where its records are: what is there of it.
@@ -235,7 +266,7 @@ pub fn walk_from(s: &[u8], stream: Stream, from: Cursor, index: u32) -> CursorRe
         return CursorRead::Missing;
     }
     let records = records_of(s, stream);
-    let Place::At(at) = behind_records(records, from.at, index - first) else {
+    let Place::At(at) = behind_from(records, from.at, index - first) else {
         return CursorRead::Missing;
     };
     CursorRead::At(Cursor { index, at })

@@ -24,14 +24,14 @@ mark-by-requires c κs = search needs
 records-of-requires : tie.Need-records-of-requires
 records-of-requires c κs = search needs
 
-sub-record-behind : tie.Need-sub-record-behind
-sub-record-behind c = omega (arith, mark-low _ _ _ (c .before .before .mark-by .ensures))
+sub-record-from : tie.Need-sub-record-from
+sub-record-from c = omega (arith, mark-low _ _ _ (c .before .before .mark-by .ensures))
 
-record-behind-requires : tie.Need-record-behind-requires
-record-behind-requires c κs = search needs
+record-from-requires : tie.Need-record-from-requires
+record-from-requires c κs = search needs
 
 returns-4 : tie.Need-returns-4
-returns-4 c = c .record-behind .ensures ∙ rw (c .before .before .records-of .ensures) (sym (look-near _ _ _ Record Missing CrossModule _ _ (c .before .before .before .before .before .before .before .if1 .left) (c .before .before .before .before .before .before .if2 .left) (c .before .before .before .before .if3 .left) _ (c .before .before .before .mark-by .ensures)))
+returns-4 c = c .record-from .ensures ∙ rw (c .before .before .records-of .ensures) (sym (look-near _ _ _ Record Missing CrossModule _ _ (c .before .before .before .before .before .before .before .if1 .left) (c .before .before .before .before .before .before .if2 .left) (c .before .before .before .before .if3 .left) _ (c .before .before .before .mark-by .ensures)))
 
 pub look-up-spec : {M : Type 1} → statement M
 look-up-spec =
@@ -42,6 +42,6 @@ look-up-spec =
     returns-3
     mark-by-requires
     records-of-requires
-    sub-record-behind
-    record-behind-requires
+    sub-record-from
+    record-from-requires
     returns-4)

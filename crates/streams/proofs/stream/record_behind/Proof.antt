@@ -11,10 +11,10 @@ use Rattle.streams.proofs.stream.record_behind.Statement.{statement}
 use Rattle.streams.proofs.stream.record_behind.Tie as tie
 
 abbrev Inv-loop : tie.InvT-loop
-Inv-loop s from count last₀ at₀ left₀ at left = passed left s at (λ at. recordAt s at Record Missing) Missing ≡ passed count s from (λ at. recordAt s at Record Missing) Missing
+Inv-loop s count last₀ at₀ left₀ at left = passed left s at (λ at. recordAt s at Record Missing) Missing ≡ passed count s 0 (λ at. recordAt s at Record Missing) Missing
 
 abbrev μ-loop : tie.MeasureT-loop
-μ-loop s from count last₀ at₀ left₀ at left = left
+μ-loop s count last₀ at₀ left₀ at left = left
 
 returns : tie.Need-returns Inv-loop μ-loop
 returns c = sym (passed-out _ Record Missing _ _ (omega arith))

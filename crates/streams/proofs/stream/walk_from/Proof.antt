@@ -22,8 +22,8 @@ returns-3 c = rw (lt-leb _ _ (c .before .before .before .if1 .left), le-ltb _ _ 
 records-of-requires : tie.Need-records-of-requires
 records-of-requires c κs = search needs
 
-behind-records-requires : tie.Need-behind-records-requires
-behind-records-requires c κs = search needs
+behind-from-requires : tie.Need-behind-from-requires
+behind-from-requires c κs = search needs
 
 enum-known-at : tie.Need-enum-known-at
 enum-known-at c = search needs
@@ -33,11 +33,11 @@ enum-told c = search needs
 
 returns-4 : tie.Need-returns-4
 unfolding walkFrom
-returns-4 c = rw (lt-leb _ _ (c .before .before .before .before .before .before .before .if1 .left), le-ltb _ _ (c .before .before .before .before .before .before .if2 .left), lt-leb _ _ (c .before .before .before .before .if3 .left), ← c .before .before .before .records-of .ensures, passed-beyond _ _ _ (c .before .before .behind-records .ensures) (c .enum-told .given .1))
+returns-4 c = rw (lt-leb _ _ (c .before .before .before .before .before .before .before .if1 .left), le-ltb _ _ (c .before .before .before .before .before .before .if2 .left), lt-leb _ _ (c .before .before .before .before .if3 .left), ← c .before .before .before .records-of .ensures, passed-beyond _ _ _ (c .before .before .behind-from .ensures) (c .enum-told .given .1))
 
 returns-5 : tie.Need-returns-5
 unfolding walkFrom
-returns-5 c = rw (lt-leb _ _ (c .before .before .before .before .before .before .before .before .if1 .left), le-ltb _ _ (c .before .before .before .before .before .before .before .if2 .left), lt-leb _ _ (c .before .before .before .before .before .if3 .left), ← c .before .before .before .before .records-of .ensures, passed-at _ _ _ (c .before .before .before .behind-records .ensures) _ (c .before .at .given .1))
+returns-5 c = rw (lt-leb _ _ (c .before .before .before .before .before .before .before .before .if1 .left), le-ltb _ _ (c .before .before .before .before .before .before .before .if2 .left), lt-leb _ _ (c .before .before .before .before .before .if3 .left), ← c .before .before .before .before .records-of .ensures, passed-at _ _ _ (c .before .before .before .behind-from .ensures) _ (c .before .at .given .1))
 
 pub walk-from-spec : {M : Type 1} → statement M
 walk-from-spec =
@@ -47,7 +47,7 @@ walk-from-spec =
     returns-2
     returns-3
     records-of-requires
-    behind-records-requires
+    behind-from-requires
     enum-known-at
     enum-told
     returns-4
