@@ -12,16 +12,20 @@ use Rattle.streams.specs.Stream.{none, checked}
 use Rattle.streams.specs.Bounds.{streamIn, spacingIn, checkIn, placesIn}
 use Rattle.streams.specs.declared.refusal.StreamKind.the-variants.{Types, Ids}
 use Rattle.streams.specs.declared.refusal.Refusal.{Refusal}
-use Rattle.streams.specs.declared.refusal.Refusal.the-variants.{UnknownFlags, PointerSize, ChainTooLong}
+use Rattle.streams.specs.declared.refusal.Refusal.the-variants.{UnknownFlags, PointerSize, ChainTooLong, WrongPlace}
 use Rattle.streams.specs.declared.stream.Stream.{Stream}
 use Rattle.streams.specs.declared.stream.StreamCheck.{StreamCheck}
 use Rattle.streams.specs.declared.stream.StreamCheck.the-variants as stream
 use Rattle.interpreter.specs.Trace.{Trace}
-use Rattle.rules.specs.Flags.{settings, sized, flagged}
+use Rattle.record_places.specs.RecordPlaces.{lentPlaces}
+use Rattle.record_places.specs.declared.PlacesCheck.the-variants.{Right, Wrong}
+use Rattle.rules.specs.Flags.{Settings, settings, sized, flagged}
 use Rattle.rules.specs.Record.{Table, tableOf}
-use Rattle.rules.specs.Places.{Near, beside, tableIn}
+use Rattle.rules.specs.Places.{Near, near, beside, tableIn}
 use Rattle.rules.specs.Task.{Task, byItself, functionOf, idOf, sizeOf}
 use Rattle.rules.specs.Call.{refusal, stopped, whole, overTypes, overIds, functionReading, idReading, typeReading, sizeReading, strictly, answer, within, functionOutcome, idOutcome, typeOutcome, sizeAnswer, sizeOutcome, ofSize}
+use Rattle.rules.specs.Placed.{functionPlaced, idPlaced, typePlaced, sizePlaced}
+use Rattle.rules.proofs.PlacedCalls.{function-right, id-right, type-right, size-right, function-wrong, id-wrong, type-wrong, size-wrong}
 use Rattle.rules.proofs.Tables.{table-right, table-types}
 use Rattle.context.specs.Context.{known, settingsOf, keysOf, holding}
 use Rattle.context.specs.declared.flags.Call.{Call}
@@ -30,7 +34,7 @@ use Rattle.context.specs.declared.flags.FlagsRead.{FlagsRead}
 use Rattle.context.specs.declared.flags.FlagsRead.the-variants as read
 use Rattle.pen.specs.Page.{readPen, page, Wrote}
 use Rattle.pen.specs.declared.Pen.{Pen}
-use Rattle.checked_calls.specs.Kept.{KeptOf}
+use Rattle.checked_calls.specs.Kept.{KeptOf, LentKept}
 use Rattle.checked_calls.specs.Answers.{started, answeredBy, settled, laid}
 use Rattle.checked_calls.specs.declared.answer.Answer.{Answer}
 use Rattle.checked_calls.specs.declared.answer.Answer.the-variants as text
@@ -42,7 +46,7 @@ use Rattle.checked_calls.specs.declared.calls.Checked.{Checked}
 use Rattle.checked_calls.specs.declared.calls.Checked.the-variants.{Good, Refused}
 use Rattle.checked_calls.specs.declared.calls.SizeAnswer.{SizeAnswer}
 use Rattle.checked_calls.specs.declared.calls.SizeAnswer.the-variants as given
-use Rattle.checked_calls.specs.Checks.{withTypes, withIds, andIds, typesBy, callBy, idsBy, performed, taken, functionOver, idOver, typeOver, sizeOver, ofSizeAnswer}
+use Rattle.checked_calls.specs.Checks.{callOver, withTypes, withIds, andIds, typesBy, callBy, idsBy, performed, taken, functionOver, idOver, typeOver, sizeOver, ofSizeAnswer, unplaced}
 
 -- The checks, one by one.
 module _ (t : StreamCheck) (flags size : ℕ) where
@@ -179,49 +183,74 @@ module _ (types : List ℕ) (v : Near) (k : KeptOf Types types v) (t : Stream) (
       let w : streamIn (v .bounds) Ids ≡ u = j .stream u f in
       rw (s, w) (table-right (spacingIn (v .bounds) Types) (placesIn (v .bounds) (v .places) Types) types t (k .right t e) (spacingIn (v .bounds) Ids) (placesIn (v .bounds) (v .places) Ids) ids u (j .right u f))
 
+-- What follows from the checks of a call, by the rules and by what its checks came to: `k` is what is walked over the call that they give.
+module _ (size flags : ℕ) (k : Call → Trace Refusal) where
+  abbrev over : Call
+  over = callOver (record { 0 = flags }) size
+
+  with-types : (b : Bool) (s : StreamCheck) (f : Refusal) (r : Stream → Trace Refusal) → ((t : Stream) → s ≡ stream.Good t → r t ≡ k over)
+      → pick b (whole s r) (refusal f) ≡ performed (pick b (withTypes (record { 0 = flags }) size s) (Refused f)) k
+  unfolding whole
+  with-types true (stream.Good t) f r h = h t refl
+  with-types true (stream.Refused g) f r h = refl
+  with-types false s f r h = refl
+
+  with-flags : (a b : Bool) (s : StreamCheck) (e f : Refusal) (r : Stream → Trace Refusal) → ((t : Stream) → s ≡ stream.Good t → r t ≡ k over)
+      → pick a (pick b (whole s r) (refusal f)) (refusal e) ≡ performed (pick a (pick b (withTypes (record { 0 = flags }) size s) (Refused f)) (Refused e)) k
+  with-flags true b s e f r h = with-types b s f r h
+  with-flags false b s e f r h = refl
+
+  with-ids : (a b : Bool) (s u : StreamCheck) (e f : Refusal) (r : Stream → Stream → Trace Refusal) → ((t v : Stream) → s ≡ stream.Good t → u ≡ stream.Good v → r t v ≡ k over)
+      → pick a (pick b (whole s (λ t. whole u (λ v. r t v))) (refusal f)) (refusal e)
+      ≡ performed (andIds (pick a (pick b (withTypes (record { 0 = flags }) size s) (Refused f)) (Refused e)) u) k
+  unfolding whole
+  with-ids true true (stream.Good t) (stream.Good u) e f r h = h t u refl refl
+  with-ids true true (stream.Good t) (stream.Refused g) e f r h = refl
+  with-ids true true (stream.Refused g) u e f r h = refl
+  with-ids true false s u e f r h = refl
+  with-ids false b s u e f r h = refl
+
+-- So the reading of a call is what is performed, where its task is read as it is walked over the checked streams.
+module _ (read : Settings → Table → Task → Trace Refusal) (types : List ℕ) {c : StreamCheck} (e : c ≡ checked Types types) (size flags : ℕ) (x : Task) (k : Call → Trace Refusal) where
+  read-types : ((t : Stream) → checked Types types ≡ stream.Good t → read (settings flags size) (tableOf types t [] none) x ≡ k (over size flags k))
+      → overTypes read flags size types x ≡ performed (callBy c flags size) k
+  unfolding overTypes callBy typesBy flagged sized
+  read-types h = rw e (with-flags size flags k (ltb flags 64) (eqb size 4 || (eqb size 8 || eqb size 16)) (checked Types types) (UnknownFlags flags) (PointerSize size) _ h)
+
+  read-ids : (ids : List ℕ) {d : StreamCheck} → d ≡ checked Ids ids
+      → ((t u : Stream) → checked Types types ≡ stream.Good t → checked Ids ids ≡ stream.Good u → read (settings flags size) (tableOf types t ids u) x ≡ k (over size flags k))
+      → overIds read flags size types ids x ≡ performed (idsBy c d flags size) k
+  unfolding overIds idsBy callBy typesBy flagged sized
+  read-ids ids f h = rw (e, f) (with-ids size flags k (ltb flags 64) (eqb size 4 || (eqb size 8 || eqb size 16)) (checked Types types) (checked Ids ids) (UnknownFlags flags) (PointerSize size) _ h)
+
+read-size : (read : Settings → Table → Task → Trace Refusal) (types : List ℕ) {c : StreamCheck} → c ≡ checked Types types → (size i : ℕ) (k : Call → Trace Refusal)
+    → ((t : Stream) → checked Types types ≡ stream.Good t → read (settings 0 size) (tableOf types t [] none) (sizeOf i 0) ≡ k (over size 0 k))
+    → sizeReading read size types i ≡ performed (typesBy c (record { 0 = 0 }) size) k
+unfolding sizeReading typesBy sized
+read-size read types e size i k h = rw e (with-types size 0 k (eqb size 4 || (eqb size 8 || eqb size 16)) (checked Types types) (PointerSize size) _ h)
+
 -- What a call reads by the rules, with what is kept of the real checks of its streams.
 module _ (types : List ℕ) (v : Near) (kept : KeptOf Types types v) (size : ℕ) (x : Task) where
-  with-types : (flags : ℕ) (b : Bool) (s : StreamCheck) (f : Refusal) → checked Types types ≡ s
-      → pick b (whole s (λ t. strictly (settings flags size) (tableOf types t [] none) x)) (refusal f)
-      ≡ performed (pick b (withTypes (record { 0 = flags }) size s) (Refused f)) (taken types (beside [] v) x)
-  unfolding whole settingsOf holding keysOf
-  with-types flags true (stream.Good t) f e = ap (λ (y : Table). strictly (settings flags size) y x) (sym (kept-types types v kept t e))
-  with-types flags true (stream.Refused g) f e = refl
-  with-types flags false s f e = refl
-
-  with-flags : (flags : ℕ) (a b : Bool) (s : StreamCheck) (e f : Refusal) → checked Types types ≡ s
-      → pick a (pick b (whole s (λ t. strictly (settings flags size) (tableOf types t [] none) x)) (refusal f)) (refusal e)
-      ≡ performed (pick a (pick b (withTypes (record { 0 = flags }) size s) (Refused f)) (Refused e)) (taken types (beside [] v) x)
-  with-flags flags true b s e f h = with-types flags b s f h
-  with-flags flags false b s e f h = refl
+  walk-types : (flags : ℕ) (t : Stream) → checked Types types ≡ stream.Good t → strictly (settings flags size) (tableOf types t [] none) x ≡ taken types (beside [] v) x (callOver (record { 0 = flags }) size)
+  unfolding settingsOf holding keysOf
+  walk-types flags t e = ap (λ (y : Table). strictly (settings flags size) y x) (sym (kept-types types v kept t e))
 
   over-types : (flags : ℕ) → overTypes strictly flags size types x ≡ performed (callBy (checkIn (v .bounds) Types) flags size) (taken types (beside [] v) x)
-  unfolding overTypes callBy typesBy flagged sized
-  over-types flags = rw (kept .check) (with-flags flags (ltb flags 64) (eqb size 4 || (eqb size 8 || eqb size 16)) (checked Types types) (UnknownFlags flags) (PointerSize size) refl)
+  over-types flags = read-types strictly types (kept .check) size flags x (taken types (beside [] v) x) (walk-types flags)
 
   module _ (ids : List ℕ) (keptIds : KeptOf Ids ids v) where
-    with-ids : (flags : ℕ) (a b : Bool) (s u : StreamCheck) (e f : Refusal) → checked Types types ≡ s → checked Ids ids ≡ u
-        → pick a (pick b (whole s (λ t. whole u (λ u. strictly (settings flags size) (tableOf types t ids u) x))) (refusal f)) (refusal e)
-        ≡ performed (andIds (pick a (pick b (withTypes (record { 0 = flags }) size s) (Refused f)) (Refused e)) u) (taken types (beside ids v) x)
-    unfolding whole settingsOf holding keysOf
-    with-ids flags true true (stream.Good t) (stream.Good u) e f h j = ap (λ (y : Table). strictly (settings flags size) y x) (sym (kept-ids types v kept t h ids keptIds u j))
-    with-ids flags true true (stream.Good t) (stream.Refused g) e f h j = refl
-    with-ids flags true true (stream.Refused g) u e f h j = refl
-    with-ids flags true false s u e f h j = refl
-    with-ids flags false b s u e f h j = refl
+    walk-ids : (flags : ℕ) (t u : Stream) → checked Types types ≡ stream.Good t → checked Ids ids ≡ stream.Good u → strictly (settings flags size) (tableOf types t ids u) x ≡ taken types (beside ids v) x (callOver (record { 0 = flags }) size)
+    unfolding settingsOf holding keysOf
+    walk-ids flags t u e f = ap (λ (y : Table). strictly (settings flags size) y x) (sym (kept-ids types v kept t e ids keptIds u f))
 
     over-ids : (flags : ℕ) → overIds strictly flags size types ids x ≡ performed (idsBy (checkIn (v .bounds) Types) (checkIn (v .bounds) Ids) flags size) (taken types (beside ids v) x)
-    unfolding overIds idsBy callBy typesBy flagged sized
-    over-ids flags =
-        rw (kept .check, keptIds .check)
-        (with-ids flags (ltb flags 64) (eqb size 4 || (eqb size 8 || eqb size 16)) (checked Types types) (checked Ids ids) (UnknownFlags flags) (PointerSize size) refl refl)
+    over-ids flags = read-ids strictly types (kept .check) size flags x (taken types (beside ids v) x) ids (keptIds .check) (walk-ids flags)
 
 -- Over what is kept of the checks of the same bytes the four calls are the rules' own. The arguments, as far as a call has them: types, ids, name, flags, size,
 -- i, room.
 module _ (types : List ℕ) (v : Near) (kept : KeptOf Types types v) where
   over-size : (size i : ℕ) → sizeReading strictly size types i ≡ performed (typesBy (checkIn (v .bounds) Types) (record { 0 = 0 }) size) (taken types (beside [] v) (sizeOf i 0))
-  unfolding sizeReading typesBy sized
-  over-size size i = rw (kept .check) (with-types types v kept size (sizeOf i 0) 0 (eqb size 4 || (eqb size 8 || eqb size 16)) (checked Types types) (PointerSize size) refl)
+  over-size size i = read-size strictly types (kept .check) size i (taken types (beside [] v) (sizeOf i 0)) (walk-types types v kept size (sizeOf i 0) 0)
 
   pub function-over : (name : List ℕ) (flags size i room : ℕ) → functionOver types v flags size name i room ≡ functionOutcome flags size types name i room
   unfolding functionOver functionOutcome functionReading
@@ -238,3 +267,57 @@ module _ (types : List ℕ) (v : Near) (kept : KeptOf Types types v) where
   pub size-over : (size i : ℕ) → sizeOver types v size i ≡ sizeOutcome size types i
   unfolding sizeOver sizeOutcome
   size-over size i = ap (λ t. sizeAnswer (within 1 t)) (sym (over-size size i))
+
+-- The calls with lent places: where the places are right they are the calls over what is kept, and else 17 follows from the checks.
+module _ (types ps ns : List ℕ) (lent : LentKept types ps ns) where
+  module _ (h : lentPlaces types ps ≡ Right) where
+    pub function-lent : (name : List ℕ) (flags size i room : ℕ) → functionOver types (near ns ps) flags size name i room ≡ functionPlaced flags size types ps name i room
+    function-lent name flags size i room = function-over types (near ns ps) (lent .kept h) name flags size i room ∙ sym (function-right types ps h flags size name i room)
+
+    pub id-lent : (ids : List ℕ) → KeptOf Ids ids (near ns ps) → (flags size i room : ℕ) → idOver types ids (near ns ps) flags size i room ≡ idPlaced flags size types ids ps i room
+    id-lent ids k flags size i room = id-over types (near ns ps) (lent .kept h) ids k flags size i room ∙ sym (id-right types ps h flags size ids i room)
+
+    pub type-lent : (flags size i room : ℕ) → typeOver types (near ns ps) flags size i room ≡ typePlaced flags size types ps i room
+    type-lent flags size i room = type-over types (near ns ps) (lent .kept h) flags size i room ∙ sym (type-right types ps h flags size i room)
+
+    pub size-lent : (size i : ℕ) → sizeOver types (near ns ps) size i ≡ sizePlaced size types ps i
+    size-lent size i = size-over types (near ns ps) (lent .kept h) size i ∙ sym (size-right types ps h size i)
+
+  module _ (n : ℕ) (h : lentPlaces types ps ≡ Wrong n) where
+    abbrev wrong : Call → Trace Refusal
+    wrong c = refusal (WrongPlace n)
+
+    pub function-unlent : (name : List ℕ) (flags size i room : ℕ) → within room (unplaced (callBy (checkIn ns Types) flags size) n) ≡ functionPlaced flags size types ps name i room
+    unfolding functionReading
+    function-unlent name flags size i room =
+        sym (function-wrong types ps n h flags size name i room ∙ ap (within room) (read-types (λ c t x. refusal (WrongPlace n)) types (lent .check) size flags (functionOf i name) wrong (λ t e. refl)))
+
+    pub id-unlent : (ids : List ℕ) → KeptOf Ids ids (near ns ps) → (flags size i room : ℕ) → within room (unplaced (idsBy (checkIn ns Types) (checkIn ns Ids) flags size) n) ≡ idPlaced flags size types ids ps i room
+    unfolding idReading
+    id-unlent ids k flags size i room =
+        sym (id-wrong types ps n h flags size ids i room ∙ ap (within room) (read-ids (λ c t x. refusal (WrongPlace n)) types (lent .check) size flags (idOf i) wrong ids (k .check) (λ t u e f. refl)))
+
+    pub type-unlent : (flags size i room : ℕ) → within room (unplaced (callBy (checkIn ns Types) flags size) n) ≡ typePlaced flags size types ps i room
+    unfolding typeReading
+    type-unlent flags size i room =
+        sym (type-wrong types ps n h flags size i room ∙ ap (within room) (read-types (λ c t x. refusal (WrongPlace n)) types (lent .check) size flags (byItself i) wrong (λ t e. refl)))
+
+    pub size-unlent : (size i : ℕ) → sizeAnswer (within 1 (unplaced (typesBy (checkIn ns Types) (record { 0 = 0 }) size) n)) ≡ sizePlaced size types ps i
+    size-unlent size i =
+        sym (size-wrong types ps n h size i ∙ ap (λ t. sizeAnswer (within 1 t)) (read-size (λ c t x. refusal (WrongPlace n)) types (lent .check) size i wrong (λ t e. refl)))
+
+-- What a call with a wrong place tells, by its checks.
+module _ (n : ℕ) {r : Checked} where
+  pub unplaced-good : (buf : List ℕ) {c : Call} → r ≡ Good c → settled buf (text.Refused (WrongPlace n)) ≡ laid buf (within (length buf) (unplaced r n))
+  unplaced-good buf f = rw f (refused-laid buf (WrongPlace n) ∙ ap (laid buf) (sym (refusal-within (length buf) (WrongPlace n))))
+
+  pub unplaced-refused : (buf : List ℕ) {f : Refusal} → r ≡ Refused f → settled buf (text.Refused f) ≡ laid buf (within (length buf) (unplaced r n))
+  unplaced-refused buf {f} g = rw g (refused-laid buf f ∙ ap (laid buf) (sym (refusal-within (length buf) f)))
+
+  pub unsized-good : {c : Call} → r ≡ Good c → ofSizeAnswer (given.Refused (WrongPlace n)) ≡ ofSize (sizeAnswer (within 1 (unplaced r n)))
+  unfolding ofSizeAnswer ofSize sizeAnswer within answer
+  unsized-good f = rw f refl
+
+  pub unsized-refused : {f : Refusal} → r ≡ Refused f → ofSizeAnswer (given.Refused f) ≡ ofSize (sizeAnswer (within 1 (unplaced r n)))
+  unfolding ofSizeAnswer ofSize sizeAnswer within answer
+  unsized-refused g = rw g refl

@@ -2,6 +2,7 @@
 use Prim.Native.Nat.{ℕ}
 use mathlib.Core.List.{List, []}
 use Rattle.streams.specs.declared.refusal.Refusal.{Refusal}
+use Rattle.streams.specs.declared.refusal.Refusal.the-variants.{WrongPlace}
 use Rattle.streams.specs.Bounds.{checkIn}
 use Rattle.streams.specs.declared.refusal.StreamKind.the-variants.{Types, Ids}
 use Rattle.streams.specs.declared.stream.StreamCheck.{StreamCheck}
@@ -52,6 +53,10 @@ idsBy t u flags size = andIds (callBy t flags size) u
 abbrev pub performed : Checked → (Call → Trace Refusal) → Trace Refusal
 performed (Good c) k = k c
 performed (Refused f) k = refusal f
+
+-- What a call reads whose lent places are wrong from an entry on (document 02, Note 3): 17, where its checks are good.
+abbrev pub unplaced : Checked → ℕ → Trace Refusal
+unplaced r k = performed r (λ c. refusal (WrongPlace k))
 
 -- The walk of a task over a checked call, with nothing open.
 abbrev pub taken : List ℕ → Lent → Task → Call → Trace Refusal

@@ -2,15 +2,19 @@
 -- the plain calls.
 use Prim.Native.Nat.{ℕ, _+_, _-_, _/_, _≤_, _<_, min}
 use mathlib.Core.Path.{_≡_}
-use mathlib.Core.List.{List}
-use lib.ListN.{length, take, drop, replicate}
+use mathlib.Core.List.{List, _++_}
+use lib.ListN.{length, take, drop, getD, replicate}
 use Rattle.streams.specs.Stream.{header, checked}
-use Rattle.streams.specs.Places.{RightFor}
-use Rattle.streams.specs.Bounds.{streamIn, spacingIn, checkIn, placesIn}
+use Rattle.streams.specs.Places.{RightFor, NotedFor, strided}
+use Rattle.streams.specs.Bounds.{streamIn, spacingIn, checkIn, placesIn, boundsOf}
 use Rattle.streams.specs.declared.refusal.StreamKind.{StreamKind}
 use Rattle.streams.specs.declared.refusal.StreamKind.the-variants.{Types, Ids}
 use Rattle.streams.specs.declared.stream.Stream.{Stream}
+use Rattle.streams.specs.declared.stream.StreamCheck.{StreamCheck}
 use Rattle.streams.specs.declared.stream.StreamCheck.the-variants.{Good}
+use Rattle.streams.specs.declared.places.NotedCheck.{NotedCheck}
+use Rattle.record_places.specs.RecordPlaces.{lentPlaces}
+use Rattle.record_places.specs.declared.PlacesCheck.the-variants.{Right}
 use Rattle.rules.specs.Places.{Near, near}
 
 pub record KeptOf (which : StreamKind) (s : List ℕ) (v : Near) : Type 0 where
@@ -23,9 +27,25 @@ pub record Kept (types ids : List ℕ) (v : Near) : Type 0 where
   pub ofTypes : KeptOf Types types v
   pub ofIds : KeptOf Ids ids v
 
--- A caller's buffer: the 19 numbers, and the places behind them.
+-- The ids' check beside one of the types: the numbers of both, and behind them the places of the ids.
+pub record KeptBeside (a : NotedCheck) (ids old new : List ℕ) : Type 0 where
+  pub b : NotedCheck
+  pub noted : NotedFor Ids ids (drop 19 old) (drop 19 new) b
+  pub is : new ≡ boundsOf a b (length old - 19) ++ drop 19 new
+  pub sized : length new ≡ length old
+
+-- A check of the types whose places were lent: every 64th record has one (document 02, Note 3).
+abbrev pub noteOf : StreamCheck → NotedCheck
+noteOf c = record { check = c; spacing = strided 64 0xffff_ffff }
+
+-- What is kept for a call with lent places: the check of the types, and, where the places are those of the stream, what look-ups go by.
+pub record LentKept (types ps ns : List ℕ) : Type 0 where
+  pub check : checkIn ns Types ≡ checked Types types
+  pub kept : lentPlaces types ps ≡ Right → KeptOf Types types (near ns ps)
+
+-- A caller's buffer: the 19 numbers and the places of the ids, as many as the last of these says, and behind them the places of the types.
 abbrev pub keptIn : List ℕ → Near
-keptIn checked = near (take 19 checked) (drop 19 checked)
+keptIn checked = near (take (19 + getD checked 18 0) checked) (drop (19 + getD checked 18 0) checked)
 
 -- How many numbers of a buffer serve for two streams with a stride: the 19, and a place for every `stride`-th record of each. A stream without a header has no
 -- record, one has no more than a fourth of its bytes, since a record has four at least, and a stride of 0 asks for no place.

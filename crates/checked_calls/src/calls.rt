@@ -5,10 +5,10 @@ ghost use lib.Dec.{eqb};
 ghost use lib.ListN.{length};
 ghost use Rattle.streams.specs.Bounds.{checkIn};
 ghost use Rattle.streams.specs.declared.refusal.StreamKind.the-variants.{Types, Ids};
-ghost use Rattle.rules.specs.Call.{ofSize};
+ghost use Rattle.rules.specs.Call.{within, sizeAnswer, ofSize};
 ghost use Rattle.rules.specs.Places.{near};
 ghost use Rattle.checked_calls.specs.Answers.{given, settled, laid};
-ghost use Rattle.checked_calls.specs.Checks.{typesBy, callBy, idsBy, functionOver, idOver, typeOver, sizeOver, ofSizeAnswer};
+ghost use Rattle.checked_calls.specs.Checks.{typesBy, callBy, idsBy, functionOver, idOver, typeOver, sizeOver, ofSizeAnswer, unplaced};
 use crate::answer::Answer;
 use crate::answer::answer_of;
 use crate::answer::settle;
@@ -52,7 +52,7 @@ fn is_pointer_size(size: u32) -> bool
 }
 
 // A call with its flags known: the pointer size, then the types.
-fn check_types(bounds: &[u32], flags: TypeFormatterFlags, size: u32) -> Checked
+pub fn check_types(bounds: &[u32], flags: TypeFormatterFlags, size: u32) -> Checked
     ensures { λ r. ⌜ r ≡ typesBy (checkIn (now (bounds .entry)) Types) flags size ⌝ }
 {
     if is_pointer_size(size) {
@@ -69,7 +69,7 @@ fn check_types(bounds: &[u32], flags: TypeFormatterFlags, size: u32) -> Checked
     }
 }
 
-fn check_call(bounds: &[u32], flags: u32, size: u32) -> Checked
+pub fn check_call(bounds: &[u32], flags: u32, size: u32) -> Checked
     ensures { λ r. ⌜ r ≡ callBy (checkIn (now (bounds .entry)) Types) flags size ⌝ }
 {
     match TypeFormatterFlags::from_bits(flags) {
@@ -79,7 +79,7 @@ fn check_call(bounds: &[u32], flags: u32, size: u32) -> Checked
 }
 
 // The ids too.
-fn check_id_call(bounds: &[u32], flags: u32, size: u32) -> Checked
+pub fn check_id_call(bounds: &[u32], flags: u32, size: u32) -> Checked
     ensures { λ r. ⌜ r ≡ idsBy (checkIn (now (bounds .entry)) Types) (checkIn (now (bounds .entry)) Ids) flags size ⌝ }
 {
     match check_call(bounds, flags, size) {
@@ -236,6 +236,26 @@ pub fn size_over(
             SizeRead::Bytes(n) => SizeAnswer::Bytes(n),
             SizeRead::TooLong(i) => SizeAnswer::Refused(Refusal::ChainTooLong(i)),
         },
+        Checked::Refused(f) => SizeAnswer::Refused(f),
+    }
+}
+
+// A text call with a wrong place: 17, where its checks are good.
+pub fn refuse_place(out: &mut [u8], checked: Checked, entry: u32) -> Answer
+    ensures { λ r. ⌜ given (now (out .exit)) r ≡ laid (now (out .entry)) (within (length (now (out .entry))) (unplaced checked entry)) ⌝ }
+{
+    match checked {
+        Checked::Good(_) => settle(out, Answer::Refused(Refusal::WrongPlace(entry))),
+        Checked::Refused(f) => settle(out, Answer::Refused(f)),
+    }
+}
+
+// A size call with a wrong place.
+pub fn refuse_size(checked: Checked, entry: u32) -> SizeAnswer
+    ensures { λ r. ⌜ ofSizeAnswer r ≡ ofSize (sizeAnswer (within 1 (unplaced checked entry))) ⌝ }
+{
+    match checked {
+        Checked::Good(_) => SizeAnswer::Refused(Refusal::WrongPlace(entry)),
         Checked::Refused(f) => SizeAnswer::Refused(f),
     }
 }

@@ -359,7 +359,8 @@ pub fn print_sheet(types: &[u8], ids: &[u8], sheet: &[u8], out: &mut [u8], skip:
     ensures { λ r. ⌜ shown (now (out .exit)) r ≡ laidOut (now (out .entry)) (sheetFit (now (types .entry)) (now (ids .entry)) (now (sheet .entry)) skip (length (now (out .entry)))) ⌝ }
     ensures { λ _. ⌜ SheetContinues (now (types .entry)) (now (ids .entry)) (now (sheet .entry)) skip (length (now (out .entry))) ⌝ }
 {
-    let mut places = [0u32; 8192];
-    let bounds = keep_both(types, ids, 0, &mut places, 4096);
-    print_over(types, ids, &bounds, &places, sheet, out, skip)
+    let mut kept = [0u32; 4115];
+    let mut places = [0u32; 4096];
+    keep_both(types, ids, &mut kept, &mut places);
+    print_over(types, ids, &kept, &places, sheet, out, skip)
 }

@@ -1,9 +1,9 @@
 // Streams checked once: a check of both streams that fills a buffer of the caller's, and the four calls, the batches and the sheet over what it left there. They take any
 // numbers.
 ghost use mathlib.Core.Path.{_≡_};
-ghost use mathlib.Core.List.{[], _++_};
-ghost use Prim.Native.Nat.{_-_, _/_, _≤_, min};
-ghost use lib.ListN.{length, take, drop, replicate};
+ghost use mathlib.Core.List.{[]};
+ghost use Prim.Native.Nat.{_+_, _≤_, min};
+ghost use lib.ListN.{length, take, drop, getD};
 ghost use Rattle.streams.specs.declared.refusal.StreamKind.the-variants.{Types, Ids};
 ghost use Rattle.rules.specs.Call.{functionOutcome, idOutcome, typeOutcome, sizeOutcome, ofSize};
 ghost use Rattle.checked_calls.specs.Answers.{given, laid};
@@ -19,11 +19,14 @@ use checked_calls::calls::function_over;
 use checked_calls::calls::id_over;
 use checked_calls::calls::size_over;
 use checked_calls::calls::type_over;
-use checked_calls::kept::keep_both;
+use checked_calls::kept::check_by;
+use checked_calls::kept::keep_ids;
 use codeview::index::IdIndex;
 use codeview::index::TypeIndex;
+use record_places::clear_numbers;
 use sheet::Printed;
 use sheet::print_over;
+use streams::bounds::number_at;
 use streams::places::least;
 use streams::places::wide;
 use streams::refusal::StreamKind;
@@ -50,27 +53,6 @@ fn places_for(stride: u32, n: u32) -> usize
     (wide(n) + (wide(stride) - 1)) / wide(stride)
 }
 
-fn clear_numbers(checked: &mut [u32])
-    ensures { λ _. ⌜ now (checked .exit) ≡ replicate (length (now (checked .entry))) 0 ⌝ }
-{
-    let mut i = 0;
-    while i < checked.len() {
-        checked[i] = 0;
-        i += 1;
-    }
-}
-
-fn store(checked: &mut [u32], bounds: [u32; 19])
-    requires { ⌜ (19 ≤ length (now checked)) × (length bounds ≡ 19) ⌝ }
-    ensures { λ _. ⌜ now (checked .exit) ≡ bounds ++ drop 19 (now (checked .entry)) ⌝ }
-{
-    let mut i = 0;
-    while i < 19 {
-        checked[i] = bounds[i];
-        i += 1;
-    }
-}
-
 // How many of so many places the types get: what they need; and half, where the stride is one that suits.
 fn split_for(stride: u32, needed: usize, room: usize) -> usize
     ensures { λ r. ⌜ r ≤ room ⌝ }
@@ -81,13 +63,14 @@ fn split_for(stride: u32, needed: usize, room: usize) -> usize
     shorter(needed, room)
 }
 
+// The places of the types stand at the end of the buffer, and before them the numbers and the places of the ids.
 fn keep_in(types: &[u8], ids: &[u8], stride: u32, needed: usize, checked: &mut [u32])
     requires { ⌜ (19 ≤ length (now checked)) × (length (now checked) ≤ 0xffff_ffff) ⌝ }
     ensures { λ _. ⌜ Kept (now (types .entry)) (now (ids .entry)) (keptIn (now (checked .exit))) ⌝ }
 {
-    let split = split_for(stride, needed, checked.len() - 19);
-    let bounds = keep_both(types, ids, stride, &mut checked[19..], split);
-    store(checked, bounds);
+    let split = checked.len() - split_for(stride, needed, checked.len() - 19);
+    let a = check_by(types, StreamKind::Types, stride, &mut checked[split..]);
+    keep_ids(a, ids, stride, &mut checked[..split]);
 }
 
 // Checks both streams, and leaves in the buffer what the calls below go by. Answers how many numbers of the buffer serve; with fewer the calls answer the
@@ -110,18 +93,25 @@ pub fn check_streams(types: &[u8], ids: &[u8], stride: u32, checked: &mut [u32])
     all
 }
 
-// The numbers at the start of a buffer, and the places behind them.
-fn numbers_of<'a>(checked: &'a [u32]) -> &'a [u32]
-    ensures { λ r. ⌜ now (r) ≡ take 19 (now (checked .entry)) ⌝ }
+// Where the places of the types start.
+fn split_of(checked: &[u32]) -> usize
+    ensures { λ r. ⌜ r ≡ min (19 + getD (now (checked .entry)) 18 0) (length (now (checked .entry))) ⌝ }
 {
-    let n = shorter(19, checked.len());
+    shorter(19 + wide(number_at(checked, 18)), checked.len())
+}
+
+// The numbers at the start of a buffer with the places of the ids, and the places of the types behind them.
+fn numbers_of<'a>(checked: &'a [u32]) -> &'a [u32]
+    ensures { λ r. ⌜ now (r) ≡ take (19 + getD (now (checked .entry)) 18 0) (now (checked .entry)) ⌝ }
+{
+    let n = split_of(checked);
     &checked[..n]
 }
 
 fn places_behind<'a>(checked: &'a [u32]) -> &'a [u32]
-    ensures { λ r. ⌜ now (r) ≡ drop 19 (now (checked .entry)) ⌝ }
+    ensures { λ r. ⌜ now (r) ≡ drop (19 + getD (now (checked .entry)) 18 0) (now (checked .entry)) ⌝ }
 {
-    let n = shorter(19, checked.len());
+    let n = split_of(checked);
     &checked[n..]
 }
 

@@ -21,6 +21,7 @@ use codeview::index::TypeIndex;
 use streams::refusal::StreamKind;
 
 pub mod checked;
+pub mod placed;
 
 // The text of a function, by its name and type.
 pub fn format_function(
@@ -51,9 +52,10 @@ pub fn format_id(
     ensures { λ r. ⌜ given (now (out .exit)) r ≡ laid (now (out .entry)) (idOutcome flags size (now (types .entry)) (now (ids .entry)) (index .0) (length (now (out .entry)))) ⌝ }
     ensures { λ _. ⌜ IdDemand flags size (now (types .entry)) (now (ids .entry)) (index .0) ⌝ }
 {
-    let mut places = [0u32; 512];
-    let bounds = keep_both(types, ids, 0, &mut places, 256);
-    id_over(types, ids, &bounds, &places, out, flags, size, index)
+    let mut kept = [0u32; 275];
+    let mut places = [0u32; 256];
+    keep_both(types, ids, &mut kept, &mut places);
+    id_over(types, ids, &kept, &places, out, flags, size, index)
 }
 
 // The text of a type.
@@ -91,14 +93,15 @@ pub fn format_ids(
     ensures { λ _. ⌜ GoesOn (length (now (answers .entry))) (now (indexes .entry)) (idBatch flags size (now (types .entry)) (now (ids .entry)) (length (now (out .entry))) (length (now (answers .entry))) (now (indexes .entry))) ⌝ }
     ensures { λ _. ⌜ ((index : ℕ) → IdDemand flags size (now (types .entry)) (now (ids .entry)) index) ⌝ }
 {
-    let mut places = [0u32; 8192];
-    let bounds = keep_both(types, ids, 0, &mut places, 4096);
+    let mut kept = [0u32; 4115];
+    let mut places = [0u32; 4096];
+    keep_both(types, ids, &mut kept, &mut places);
     let ids_of = StreamKind::Ids;
     texts_over(
         ids_of,
         types,
         ids,
-        &bounds,
+        &kept,
         &places,
         out,
         flags,

@@ -10,6 +10,9 @@ use Rattle.sheet.proofs.print_sheet.Tie as tie
 slice-aggregate-keep-both : tie.Need-slice-aggregate-keep-both
 slice-aggregate-keep-both c = search needs
 
+slice-aggregate-keep-both-2 : tie.Need-slice-aggregate-keep-both-2
+slice-aggregate-keep-both-2 c = search needs
+
 keep-both-requires : tie.Need-keep-both-requires
 keep-both-requires c κs = search needs
 
@@ -23,7 +26,7 @@ print-over-requires : tie.Need-print-over-requires
 print-over-requires c κs = search needs
 
 returns : tie.Need-returns
-returns c = (c .before .before .print-over .ensures .0 ∙ ap (laidOut _) (fit-kept-of _ _ (c .before .before .before .before .before .before .before .before .before .before .before .before .before .args .sheet .now) _ (c .before .before .before .before .before .before .before .keep-both .ensures) (c .before .before .before .before .before .before .before .before .before .before .before .before .before .args .skip) _), continues _ _ _ (sheet-short _ (bounded-to _ _) _))
+returns c = (c .before .before .print-over .ensures .0 ∙ ap (laidOut _) (fit-kept-of _ _ (c .before .before .before .before .before .before .before .before .before .before .before .before .before .before .before .args .sheet .now) _ (c .before .before .before .before .before .before .before .before .keep-both .ensures) (c .before .before .before .before .before .before .before .before .before .before .before .before .before .before .before .args .skip) _), continues _ _ _ (sheet-short _ (bounded-to _ _) _))
 
 same-length : tie.Need-same-length
 same-length c = search needs
@@ -33,6 +36,7 @@ print-sheet-spec =
     tie.close
     (tie.spec
     slice-aggregate-keep-both
+    slice-aggregate-keep-both-2
     keep-both-requires
     slice-aggregate-print-over
     slice-aggregate-print-over-2

@@ -15,6 +15,9 @@ use Rattle.checked_calls.proofs.kept.keep_both.Reads as keep-both-reads
 slice-aggregate-keep-both : tie.Need-slice-aggregate-keep-both
 slice-aggregate-keep-both c = search needs
 
+slice-aggregate-keep-both-2 : tie.Need-slice-aggregate-keep-both-2
+slice-aggregate-keep-both-2 c = search needs
+
 keep-both-requires : tie.Need-keep-both-requires
 keep-both-requires c κs = search needs
 
@@ -31,13 +34,14 @@ same-length : tie.Need-same-length
 same-length c = search needs
 
 returns : tie.Need-returns
-returns c = (c .before .before .id-over .ensures ∙ ap (laid _) (id-over _ _ (c .before .before .before .before .before .before .before .keep-both .ensures .ofTypes) _ (c .before .before .before .before .before .before .before .keep-both .ensures .ofIds) _ _ _ _), id-demand _ _ _ _ _)
+returns c = (c .before .before .id-over .ensures ∙ ap (laid _) (id-over _ _ (c .before .before .before .before .before .before .before .before .keep-both .ensures .ofTypes) _ (c .before .before .before .before .before .before .before .before .keep-both .ensures .ofIds) _ _ _ _), id-demand _ _ _ _ _)
 
 pub format-id-spec : {M : Type 1} → statement M
 format-id-spec =
     tie.close
     (tie.spec
     slice-aggregate-keep-both
+    slice-aggregate-keep-both-2
     keep-both-requires
     slice-aggregate-id-over
     slice-aggregate-id-over-2

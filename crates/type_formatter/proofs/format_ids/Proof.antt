@@ -11,6 +11,9 @@ use Rattle.type_formatter.proofs.format_ids.Tie as tie
 slice-aggregate-keep-both : tie.Need-slice-aggregate-keep-both
 slice-aggregate-keep-both c = search needs
 
+slice-aggregate-keep-both-2 : tie.Need-slice-aggregate-keep-both-2
+slice-aggregate-keep-both-2 c = search needs
+
 keep-both-requires : tie.Need-keep-both-requires
 keep-both-requires c κs = search needs
 
@@ -24,7 +27,7 @@ texts-over-requires : tie.Need-texts-over-requires
 texts-over-requires c κs = search needs
 
 returns : tie.Need-returns
-returns c = (c .before .before .before .before .texts-over .ensures .0 ∙ ap (laidBatch _ _) (id-batch-kept _ _ _ _ _ _ _ _ (c .before .before .before .before .before .before .before .before .before .before .keep-both .ensures)), (batch-goes-on _ _ _ _, λ i. id-demand _ _ _ _ i))
+returns c = (c .before .before .before .before .texts-over .ensures .0 ∙ ap (laidBatch _ _) (id-batch-kept _ _ _ _ _ _ _ _ (c .before .before .before .before .before .before .before .before .before .before .before .keep-both .ensures)), (batch-goes-on _ _ _ _, λ i. id-demand _ _ _ _ i))
 
 same-length : tie.Need-same-length
 same-length c = search needs
@@ -37,6 +40,7 @@ format-ids-spec =
     tie.close
     (tie.spec
     slice-aggregate-keep-both
+    slice-aggregate-keep-both-2
     keep-both-requires
     slice-aggregate-texts-over
     slice-aggregate-texts-over-2

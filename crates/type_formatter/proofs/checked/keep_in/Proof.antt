@@ -1,10 +1,11 @@
--- The places are noted behind the first 19 numbers, which are then stored.
+-- The places of the types are noted at the end, and those of the ids behind the 19 numbers at the start.
 -- Assumes nothing.
 use native.Mathlib.Omega.{arith}
 use Prim.Native.Nat.{_-_}
-use mathlib.Core.Path.{_∙_}
-use lib.ListN.{length, length-take, length-drop}
-use Rattle.type_formatter.proofs.Once.{kept-stored}
+use mathlib.Core.Path.{refl, sym, _∙_}
+use lib.ListN.{length}
+use lib.Seq.{length-take-le}
+use Rattle.type_formatter.proofs.Once.{kept-in, front-inside, front-requires}
 use borrow.Author.Needs.{needs}
 use Rattle.type_formatter.proofs.checked.keep_in.Statement.{statement}
 use Rattle.type_formatter.proofs.checked.keep_in.Tie as tie
@@ -15,23 +16,35 @@ sub-split-for c = omega (arith, c .before .before .before .pre)
 split-for-requires : tie.Need-split-for-requires
 split-for-requires c κs = search needs
 
-sub-keep-both : tie.Need-sub-keep-both
-sub-keep-both c = omega (arith, c .before .before .before .before .pre)
+sub-split : tie.Need-sub-split
+sub-split c = omega (arith, c .split-for .ensures, c .before .before .before .before .pre)
 
-part-keep-both-start : tie.Need-part-keep-both-start
-part-keep-both-start c = omega (arith, c .before .before .before .before .pre)
+mul-check-by : tie.Need-mul-check-by
+mul-check-by c = search needs
 
-part-keep-both-end : tie.Need-part-keep-both-end
-part-keep-both-end c = omega (arith, c .before .before .before .before .pre)
+sub-check-by : tie.Need-sub-check-by
+sub-check-by c = omega (arith, c .split-for .ensures, c .before .before .before .before .pre)
 
-keep-both-requires : tie.Need-keep-both-requires
-keep-both-requires c κs = (simp (length-take, length-drop) (omega (arith, c .before .split-for .ensures, c .before .before .before .before .before .pre)), simp (length-take, length-drop) (omega (arith, c .before .before .before .before .before .pre)))
+part-check-by-start : tie.Need-part-check-by-start
+part-check-by-start c = omega (arith, c .split-for .ensures, c .before .before .before .before .pre)
 
-store-requires : tie.Need-store-requires
-store-requires c κs = search needs
+part-check-by-end : tie.Need-part-check-by-end
+part-check-by-end c = omega (arith, c .split-for .ensures, c .before .before .before .before .pre)
+
+check-by-requires : tie.Need-check-by-requires
+check-by-requires c κs = search needs
+
+slice-relend-prefix-keep-ids : tie.Need-slice-relend-prefix-keep-ids
+slice-relend-prefix-keep-ids c = front-inside (c .before .before .before .before .before .before .before .before .args .checked .now) (c .before .before .check-by .last .1 .1 .1 .0) (length (c .before .before .before .before .before .before .before .before .args .checked .now) - c .before .before .before .before .split-for .result) (length (c .before .before .before .before .before .before .before .before .args .checked .now) - (length (c .before .before .before .before .before .before .before .before .args .checked .now) - c .before .before .before .before .split-for .result)) (omega (arith, c .before .before .before .before .split-for .ensures, c .before .before .before .before .before .before .before .before .pre))
+
+slice-aggregate-keep-ids : tie.Need-slice-aggregate-keep-ids
+slice-aggregate-keep-ids c = sym (length-take-le _ _ (front-inside (c .before .before .before .before .before .before .before .before .before .args .checked .now) (c .before .before .before .check-by .last .1 .1 .1 .0) (length (c .before .before .before .before .before .before .before .before .before .args .checked .now) - c .before .before .before .before .before .split-for .result) (length (c .before .before .before .before .before .before .before .before .before .args .checked .now) - (length (c .before .before .before .before .before .before .before .before .before .args .checked .now) - c .before .before .before .before .before .split-for .result)) (omega (arith, c .before .before .before .before .before .split-for .ensures, c .before .before .before .before .before .before .before .before .before .pre))))
+
+keep-ids-requires : tie.Need-keep-ids-requires
+keep-ids-requires c κs = front-requires (c .before .before .before .before .before .before .before .before .before .args .checked .now) (c .before .before .before .check-by .last .1 .1 .1 .0) (length (c .before .before .before .before .before .before .before .before .before .args .checked .now) - c .before .before .before .before .before .split-for .result) (length (c .before .before .before .before .before .before .before .before .before .args .checked .now) - (length (c .before .before .before .before .before .before .before .before .before .args .checked .now) - c .before .before .before .before .before .split-for .result)) (omega (arith, c .before .before .before .before .before .split-for .ensures, c .before .before .before .before .before .before .before .before .before .pre)) (omega (arith, c .before .before .before .before .before .split-for .ensures, c .before .before .before .before .before .before .before .before .before .pre)) (c .before .before .before .before .before .before .before .before .before .pre .1)
 
 returns : tie.Need-returns
-returns c = kept-stored _ _ _ (c .before .before .before .before .before .before .before .before .before .before .before .before .args .checked .now) (c .before .before .before .before .before .before .keep-both .last .1 .1 .1 .0) _ (length (c .before .before .before .before .before .before .before .before .before .before .before .before .args .checked .now) - 19) (search needs) (c .before .before .before .before .before .before .before .before .before .before .before .before .pre .0) (search needs) (c .before .before .store .ensures) (c .before .before .before .before .before .before .keep-both .ensures)
+returns c = kept-in _ _ _ (c .before .before .before .before .before .before .before .before .before .before .before .before .args .checked .now) (c .before .before .before .before .before .before .check-by .last .1 .1 .1 .0) (c .before .before .keep-ids .last .1 .1 .1 .0) _ _ (omega (arith, c .before .before .before .before .before .before .before .before .split-for .ensures, c .before .before .before .before .before .before .before .before .before .before .before .before .pre)) (omega (arith, c .before .before .before .before .before .before .before .before .split-for .ensures, c .before .before .before .before .before .before .before .before .before .before .before .before .pre)) refl (c .before .before .before .before .before .before .check-by .ensures) (c .before .before .keep-ids .ensures)
 
 same-length : tie.Need-same-length
 same-length c = search needs
@@ -42,10 +55,14 @@ keep-in-spec =
     (tie.spec
     sub-split-for
     split-for-requires
-    sub-keep-both
-    part-keep-both-start
-    part-keep-both-end
-    keep-both-requires
-    store-requires
+    sub-split
+    mul-check-by
+    sub-check-by
+    part-check-by-start
+    part-check-by-end
+    check-by-requires
+    slice-relend-prefix-keep-ids
+    slice-aggregate-keep-ids
+    keep-ids-requires
     same-length
     returns)

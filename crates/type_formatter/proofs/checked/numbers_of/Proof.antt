@@ -8,14 +8,14 @@ use borrow.Author.Needs.{needs}
 use Rattle.type_formatter.proofs.checked.numbers_of.Statement.{statement}
 use Rattle.type_formatter.proofs.checked.numbers_of.Tie as tie
 
-shorter-requires : tie.Need-shorter-requires
-shorter-requires c κs = search needs
+split-of-requires : tie.Need-split-of-requires
+split-of-requires c κs = search needs
 
 slice-aggregate-result : tie.Need-slice-aggregate-result
-slice-aggregate-result c = sym (length-take-le _ _ (omega (arith, c .before .shorter .ensures)))
+slice-aggregate-result c = sym (length-take-le _ _ (omega (arith, c .before .split-of .ensures)))
 
 returns : tie.Need-returns
-returns c = rw (c .before .shorter .ensures, take-shorter)
+returns c = rw (c .before .split-of .ensures, take-shorter)
 
 pub numbers-of-spec : {M : Type 1} → statement M
-numbers-of-spec = tie.close (tie.spec shorter-requires slice-aggregate-result returns)
+numbers-of-spec = tie.close (tie.spec split-of-requires slice-aggregate-result returns)

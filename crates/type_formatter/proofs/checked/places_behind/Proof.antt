@@ -6,25 +6,25 @@ use borrow.Author.Needs.{needs}
 use Rattle.type_formatter.proofs.checked.places_behind.Statement.{statement}
 use Rattle.type_formatter.proofs.checked.places_behind.Tie as tie
 
-shorter-requires : tie.Need-shorter-requires
-shorter-requires c κs = search needs
+split-of-requires : tie.Need-split-of-requires
+split-of-requires c κs = search needs
 
 mul-result : tie.Need-mul-result
 mul-result c = search needs
 
 sub-result : tie.Need-sub-result
-sub-result c = omega (arith, c .shorter .ensures)
+sub-result c = omega (arith, c .split-of .ensures)
 
 part-result-start : tie.Need-part-result-start
-part-result-start c = omega (arith, c .shorter .ensures)
+part-result-start c = omega (arith, c .split-of .ensures)
 
 part-result-end : tie.Need-part-result-end
-part-result-end c = omega (arith, c .shorter .ensures)
+part-result-end c = omega (arith, c .split-of .ensures)
 
 returns : tie.Need-returns
-returns c = rw (rest-whole, c .before .shorter .ensures, drop-shorter)
+returns c = rw (rest-whole, c .before .split-of .ensures, drop-shorter)
 
 pub places-behind-spec : {M : Type 1} → statement M
 places-behind-spec =
     tie.close
-    (tie.spec shorter-requires mul-result sub-result part-result-start part-result-end returns)
+    (tie.spec split-of-requires mul-result sub-result part-result-start part-result-end returns)
