@@ -5,6 +5,9 @@ use mathlib.Core.List.{List}
 use Rattle.wire.specs.Field.{pick}
 use Rattle.streams.specs.Refusal.{numberOf, detailOf}
 use Rattle.streams.specs.declared.refusal.Refusal.{Refusal}
+use Rattle.record_places.specs.RecordPlaces.{Pass, leaves}
+use Rattle.record_places.specs.declared.PlacesAnswer.{PlacesAnswer}
+use Rattle.record_places.specs.declared.PlacesAnswer.the-variants as places
 use Rattle.rules.specs.Call.{Outcome, Size, Report, report, refusedBy, ofSize}
 use Rattle.checked_calls.specs.Answers.{left, ofAnswer, given, laid}
 use Rattle.checked_calls.specs.declared.answer.Answer.{Answer}
@@ -20,7 +23,7 @@ use Rattle.msf.specs.Contents as stream
 use Rattle.msf.specs.declared.StreamRead.{StreamRead}
 use Rattle.msf.specs.declared.StreamRead.the-variants.{Bytes, Refused}
 use Rattle.msf.specs.declared.damage.Damage.{Damage}
-use Rattle.yokberd.specs.Report.{Counts, counts, ofPrinted, ofFit, Told, told, ofRead}
+use Rattle.yokberd.specs.Report.{Counts, counts, ofPrinted, ofFit, Told, told, ofRead, ofPass}
 
 refused : {n d : ℕ} (f : Refusal) → n ≡ numberOf f → d ≡ detailOf f → report n d 0 ≡ refusedBy f
 refused f e g = rw (e, g) refl
@@ -81,3 +84,15 @@ damaged-case e n p = rw (e, n, p) refl
 
 pub stream-left : (out : List ℕ) (a : StreamRead) (s : stream.Result) {t : Told} → stream.given out a ≡ s → t ≡ ofRead a → (t ≡ ofRead (s .told)) × (out ≡ s .buf)
 stream-left out a s e f = (f ∙ ap (λ (r : stream.Result). ofRead (r .told)) e, ap (λ (r : stream.Result). r .buf) e)
+
+-- The ends of `report_places`, and what the pass leaves.
+pub filled-case : {a : PlacesAnswer} {n : ℕ} → a ≡ places.Filled n → report 0 0 n ≡ ofPass a
+unfolding ofPass
+filled-case e = sym (ap ofPass e)
+
+pub unfilled-case : {a : PlacesAnswer} {f : Refusal} {n d : ℕ} → a ≡ places.Refused f → n ≡ numberOf f → d ≡ detailOf f → report n d 0 ≡ ofPass a
+unfolding ofPass
+unfilled-case {f = f} e g h = refused f g h ∙ sym (ap ofPass e)
+
+pub pass-left : (out : List ℕ) (a : PlacesAnswer) (p : Pass) {r : Report} → leaves out a ≡ p → r ≡ ofPass a → (r ≡ ofPass (p .told)) × (out ≡ p .buf)
+pass-left out a p e f = (f ∙ ap (λ (q : Pass). ofPass (q .told)) e, ap (λ (q : Pass). q .buf) e)

@@ -2,6 +2,9 @@
 use Prim.Native.Nat.{ℕ}
 use lib.ListN.{length}
 use Rattle.wire.specs.Field.{pick}
+use Rattle.record_places.specs.declared.PlacesAnswer.{PlacesAnswer}
+use Rattle.record_places.specs.declared.PlacesAnswer.the-variants as places
+use Rattle.rules.specs.Call.{Report, refusedBy, accepted}
 use Rattle.sheet.specs.Sheet.{Fit}
 use Rattle.sheet.specs.declared.Printed.{Printed}
 use Rattle.msf.specs.Damage.{numberOf, placeOf}
@@ -35,3 +38,8 @@ told n at len = record { number = n; place = at; len = len }
 unfoldable pub ofRead : StreamRead → Told
 ofRead (Bytes n) = told 0 0 n
 ofRead (Refused d) = told (numberOf d) (placeOf d) 0
+
+-- The pass that fills places: the refusal's number, or 0; its detail, or 0; how many entries are filled, or 0 where it is refused.
+unfoldable pub ofPass : PlacesAnswer → Report
+ofPass (places.Filled n) = accepted n
+ofPass (places.Refused f) = refusedBy f

@@ -1,10 +1,12 @@
-// The calls for programs in C and Rust: each of the four calls, the batches, the sheet and the container under its plain name, with numbers and slices only. What a call answers
-// beside its number goes into numbers that the caller lends. `c/yokberd.h` says the same to a C program.
+// The calls for programs in C and Rust: each of the four calls, the batches, the sheet, the places and the container under its plain name, with numbers and
+// slices only. What a call answers beside its number goes into numbers that the caller lends. `c/yokberd.h` says the same to a C program.
 ghost use mathlib.Core.Path.{_≡_};
 ghost use mathlib.Core.List.{[]};
 ghost use Prim.Native.Nat.{ℕ};
 ghost use lib.ListN.{length};
 ghost use Rattle.rules.specs.Call.{functionOutcome, FunctionDemand, idOutcome, IdDemand, typeOutcome, TypeDemand, sizeOutcome, SizeFinished, report, ofSize};
+ghost use Rattle.rules.specs.Placed.{functionPlaced, FunctionPlacedDemand, idPlaced, IdPlacedDemand, typePlaced, TypePlacedDemand, sizePlaced, SizeAsPlain};
+ghost use Rattle.record_places.specs.RecordPlaces.{fillPass};
 ghost use Rattle.checked_calls.specs.Answers.{left, ofAnswer, laid};
 ghost use Rattle.streams.specs.declared.refusal.StreamKind.the-variants.{Types, Ids};
 ghost use Rattle.checked_calls.specs.Checks.{functionOver, idOver, typeOver, sizeOver, ofSizeAnswer};
@@ -13,13 +15,15 @@ ghost use Rattle.batch.specs.Batch.{batched, laidBatch, GoesOn, typeBatch, idBa
 ghost use Rattle.sheet.specs.Sheet.{sheetFit, fitOver};
 ghost use Rattle.sheet.specs.Printed.{laidOut, SheetContinues, ContinuesOver};
 ghost use Rattle.msf.specs.Contents.{streamOf, laid as laidStream};
-ghost use Rattle.yokberd.specs.Report.{counts, ofPrinted, ofFit, told, ofRead};
+ghost use Rattle.yokberd.specs.Report.{counts, ofPrinted, ofFit, told, ofRead, ofPass};
 use checked_calls::answer::Answer;
 use checked_calls::calls::SizeAnswer;
 use codeview::index::IdIndex;
 use codeview::index::TypeIndex;
 use msf::StreamRead;
 use msf::read_stream;
+use record_places::PlacesAnswer;
+use record_places::fill_places;
 use sheet::Printed;
 use sheet::print_sheet;
 use type_formatter::checked;
@@ -30,6 +34,7 @@ use type_formatter::format_ids;
 use type_formatter::format_type;
 use type_formatter::format_types;
 use type_formatter::get_type_size;
+use type_formatter::placed;
 
 fn report_text(a: Answer, detail: &mut u32, written: &mut usize) -> u32
     ensures { λ r. ⌜ report r (now (detail .exit)) (now (written .exit)) ≡ ofAnswer a ⌝ }
@@ -71,6 +76,23 @@ fn report_printed(p: Printed, bytes: &mut usize, lines: &mut usize) -> u32
     *bytes = p.bytes;
     *lines = p.lines;
     if p.more { 1 } else { 0 }
+}
+
+fn report_places(a: PlacesAnswer, detail: &mut u32, filled: &mut usize) -> u32
+    ensures { λ r. ⌜ report r (now (detail .exit)) (now (filled .exit)) ≡ ofPass a ⌝ }
+{
+    match a {
+        PlacesAnswer::Filled(n) => {
+            *detail = 0;
+            *filled = n;
+            0
+        }
+        PlacesAnswer::Refused(f) => {
+            *detail = f.detail();
+            *filled = 0;
+            f.number()
+        }
+    }
 }
 
 fn report_stream(a: StreamRead, at: &mut usize, len: &mut usize) -> u32
@@ -322,6 +344,97 @@ pub extern "C" fn yokberd_checked_format_types(
     ensures { λ _. ⌜ GoesOn (length (now (answers .entry))) (now (indexes .entry)) (batchOver Types (now (types .entry)) [] (keptIn (now (checked .entry))) flags size (length (now (out .entry))) (length (now (answers .entry))) (now (indexes .entry))) ⌝ }
 {
     checked::format_types(types, checked, out, flags, size, indexes, answers)
+}
+
+// Fills the front of a buffer with the places of the type records 0, 64, 128 and on.
+#[no_mangle]
+pub extern "C" fn yokberd_fill_places(
+    types: &[u8],
+    places: &mut [u32],
+    detail: &mut u32,
+    filled: &mut usize,
+) -> u32
+    ensures { λ r. ⌜ report r (now (detail .exit)) (now (filled .exit)) ≡ ofPass (fillPass (now (types .entry)) (now (places .entry)) .told) ⌝ }
+    ensures { λ _. ⌜ now (places .exit) ≡ fillPass (now (types .entry)) (now (places .entry)) .buf ⌝ }
+{
+    let a = fill_places(types, places);
+    report_places(a, detail, filled)
+}
+
+// The text of a function, with lent places.
+#[no_mangle]
+pub extern "C" fn yokberd_placed_format_function(
+    types: &[u8],
+    places: &[u32],
+    out: &mut [u8],
+    flags: u32,
+    size: u32,
+    name: &[u8],
+    index: u32,
+    detail: &mut u32,
+    written: &mut usize,
+) -> u32
+    ensures { λ r. ⌜ left (now (out .exit)) (report r (now (detail .exit)) (now (written .exit))) ≡ laid (now (out .entry)) (functionPlaced flags size (now (types .entry)) (now (places .entry)) (now (name .entry)) index (length (now (out .entry)))) ⌝ }
+    ensures { λ _. ⌜ FunctionPlacedDemand flags size (now (types .entry)) (now (places .entry)) (now (name .entry)) index ⌝ }
+{
+    let a = placed::format_function(types, places, out, flags, size, name, TypeIndex(index));
+    report_text(a, detail, written)
+}
+
+// The text of an id, with lent places.
+#[no_mangle]
+pub extern "C" fn yokberd_placed_format_id(
+    types: &[u8],
+    ids: &[u8],
+    places: &[u32],
+    out: &mut [u8],
+    flags: u32,
+    size: u32,
+    index: u32,
+    detail: &mut u32,
+    written: &mut usize,
+) -> u32
+    ensures { λ r. ⌜ left (now (out .exit)) (report r (now (detail .exit)) (now (written .exit))) ≡ laid (now (out .entry)) (idPlaced flags size (now (types .entry)) (now (ids .entry)) (now (places .entry)) index (length (now (out .entry)))) ⌝ }
+    ensures { λ _. ⌜ IdPlacedDemand flags size (now (types .entry)) (now (ids .entry)) (now (places .entry)) index ⌝ }
+{
+    let a = placed::format_id(types, ids, places, out, flags, size, IdIndex(index));
+    report_text(a, detail, written)
+}
+
+// The text of a type, with lent places.
+#[no_mangle]
+pub extern "C" fn yokberd_placed_format_type(
+    types: &[u8],
+    places: &[u32],
+    out: &mut [u8],
+    flags: u32,
+    size: u32,
+    index: u32,
+    detail: &mut u32,
+    written: &mut usize,
+) -> u32
+    ensures { λ r. ⌜ left (now (out .exit)) (report r (now (detail .exit)) (now (written .exit))) ≡ laid (now (out .entry)) (typePlaced flags size (now (types .entry)) (now (places .entry)) index (length (now (out .entry)))) ⌝ }
+    ensures { λ _. ⌜ TypePlacedDemand flags size (now (types .entry)) (now (places .entry)) index ⌝ }
+{
+    let a = placed::format_type(types, places, out, flags, size, TypeIndex(index));
+    report_text(a, detail, written)
+}
+
+// The size of a type, with lent places; this call takes no flags.
+#[no_mangle]
+pub extern "C" fn yokberd_placed_get_type_size(
+    types: &[u8],
+    places: &[u32],
+    size: u32,
+    index: u32,
+    detail: &mut u32,
+    bytes: &mut u64,
+) -> u32
+    ensures { λ r. ⌜ report r (now (detail .exit)) (now (bytes .exit)) ≡ ofSize (sizePlaced size (now (types .entry)) (now (places .entry)) index) ⌝ }
+    ensures { λ _. ⌜ SizeAsPlain size (now (types .entry)) (now (places .entry)) index ⌝ }
+{
+    let a = placed::get_type_size(types, places, size, TypeIndex(index));
+    report_size(a, detail, bytes)
 }
 
 // A sheet's lines behind the first `skip` of them, as far as whole lines fit: 1 where lines are left, else 0.
