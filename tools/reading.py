@@ -3,11 +3,13 @@
 
     reading.py sheet DIR          prints the lines of `names` for types.bin, ids.bin and sheet.bin in DIR
     reading.py sheets DIR...      compares those lines with DIR/expected.txt, or with expected-after-NN.txt where Note NN changed them, for each DIR
+    reading.py places DIR...      compares the lines of DIR's sheet, whose calls take the places of DIR/places.bin, with those, and the pass that fills
+                                  places, over buffers of the lengths that DIR/pass.txt has, with that file
     reading.py vectors CRATE      prints what `test_vectors` must print, from the files args and data/*.bin of its folder CRATE
     reading.py ids TYPES IDS      prints each id of a pair of streams with its text under flags 0
 
 It was made from the documents and from the texts of the Rust module that they name; where they leave a choice, it takes that of docs/READINGS.md. Of
-document 02 it has Notes 1 and 2. Nothing of the Rattle code or its definitions is used. Expected outputs are made by it, so it is kept simple rather than fast."""
+document 02 it has Notes 1 to 3. Nothing of the Rattle code or its definitions is used. Expected outputs are made by it, so it is kept simple rather than fast."""
 import functools
 import os
 import sys
@@ -17,7 +19,8 @@ sys.setrecursionlimit(20000)
 NO_FUNCTION_RETURN, NO_MEMBER_FUNCTION_STATIC, SPACE_AFTER_COMMA, SPACE_BEFORE_POINTER, NAME_ONLY, NO_ARGUMENTS = 1, 2, 4, 8, 16, 32
 ALL_FLAGS = 63
 OPEN_LIMIT, CHAIN_LIMIT = 96, 32
-NOTES = 2                                          # so many Notes of document 02 are here
+PLACE_STEP = 64                                    # of type records 0, 64, 128 and on a place is kept
+NOTES = 3                                          # so many Notes of document 02 are here
 
 # code: name and byte size, by cvinfo.h and the Rust module
 PRIMITIVES = {
@@ -39,7 +42,7 @@ SIGNS = [b"*", b"&", b"::*", b"::*", b"&&"]       # by pointer mode
 
 
 class Refused(Exception):
-    """A refusal of document 01: its number and detail."""
+    """A refusal of documents 01 and 02: its number and detail."""
 
     def __init__(self, number, detail):
         super().__init__(number, detail)
@@ -230,10 +233,11 @@ IDS_UNHANDLED = (0x1603, 0x1606, 0x1607)
 
 
 class Stream:
-    """A checked stream: 3 for its header, 4 where its records do not tile. `which` is 0 for types and 1 for ids; ids of no bytes are no ids at all."""
+    """A checked stream: 3 for its header, 4 where its records do not tile. `which` is 0 for types and 1 for ids; ids of no bytes are no ids at all.
+    `places` are those of the records 0, 64, 128 and on: of their length fields, from the stream's start."""
 
     def __init__(self, data, which):
-        self.which = which
+        self.which, self.data, self.lent, self.places = which, data, None, []
         if which == 1 and not data:
             self.first, self.end, self.records = 0, 0, []
             return
@@ -242,17 +246,35 @@ class Stream:
         header_size, self.first, self.end, size = (int.from_bytes(data[at:at + 4], "little") for at in (4, 8, 12, 16))
         if header_size != 56 or self.first < 0x1000 or self.end < self.first or self.end > 0x80000000 or size > len(data) - 56:
             raise Refused(3, which)
-        self.records, at, stop = [], 56, 56 + size
-        while at < stop:
-            if at + 2 > stop:
+        self.records, at, self.stop = [], 56, 56 + size
+        while at < self.stop:
+            if at + 2 > self.stop:
                 raise Refused(4, which)
             length = int.from_bytes(data[at:at + 2], "little")
-            if length < 2 or at + 2 + length > stop:
+            if length < 2 or at + 2 + length > self.stop:
                 raise Refused(4, which)
+            if len(self.records) % PLACE_STEP == 0:
+                self.places.append(at)
             self.records.append((int.from_bytes(data[at + 2:at + 4], "little"), data[at + 4:at + 2 + length]))
             at += 2 + length
         if len(self.records) != self.end - self.first:
             raise Refused(4, which)
+
+    def lend(self, places):
+        """Places that a call was lent, or 17 for the first of those needed that is lacking or not this stream's; what is past them is never looked at."""
+        for number, place in enumerate(self.places):
+            if number >= len(places) or places[number] != place:
+                raise Refused(17, number)
+        self.lent = places
+
+    def record(self, number):
+        """Kind and fields of a record. With lent places it is looked for in what is behind the last place at or before it, over at most 63 others."""
+        if self.lent is None:
+            return self.records[number]
+        rest = self.data[self.lent[number // PLACE_STEP]:self.stop]
+        for _ in range(number % PLACE_STEP):
+            rest = rest[2 + int.from_bytes(rest[:2], "little"):]
+        return int.from_bytes(rest[2:4], "little"), rest[4:2 + int.from_bytes(rest[:2], "little")]
 
     def read(self, index):
         """The record of an index, or 6, 8, 7 or 5, in this order."""
@@ -265,7 +287,7 @@ class Stream:
             return Record("primitive", name=name.encode(), size=size, indirect=index >> 8 > 0)
         if not self.first <= index < self.end:
             raise Refused(8, index)
-        kind, fields = self.records[index - self.first]
+        kind, fields = self.record(index - self.first)
         kinds, unhandled = (ID_KINDS, IDS_UNHANDLED) if self.which else (TYPE_KINDS, TYPES_UNHANDLED)
         if kind in unhandled:
             return Record("unhandled", kind=kind)
@@ -647,43 +669,64 @@ class Formatter:
         self.method_arguments(kind, True, seen)
 
 
-# The four calls: (number, detail, text or size)
+# The four calls: (number, detail, text or size). Each may be lent places, which are checked behind the streams
 
 def check_size(pointer_size):
     if pointer_size not in (4, 8, 16):
         raise Refused(2, pointer_size)
 
 
-def text_call(types, ids, flags, pointer_size, room, write):
+def check_streams(types, ids, places):
+    """Types, ids where the call takes them, then the places."""
+    types = Stream(types, 0)
+    ids = None if ids is None else Stream(ids, 1)
+    if places is not None:
+        types.lend(places)
+    return types, ids
+
+
+def text_call(types, ids, flags, pointer_size, room, places, write):
     try:
         if flags & ~ALL_FLAGS:
             raise Refused(1, flags)
         check_size(pointer_size)
-        types = Stream(types, 0)
-        formatter = Formatter(types, None if ids is None else Stream(ids, 1), flags, pointer_size, room)
+        formatter = Formatter(*check_streams(types, ids, places), flags, pointer_size, room)
         write(formatter)
         return 0, 0, bytes(formatter.text)
     except Refused as refused:
         return refused.number, refused.detail, None
 
 
-def format_function(types, flags, pointer_size, room, name, index):
-    return text_call(types, None, flags, pointer_size, room, lambda f: f.function(name, index))
+def format_function(types, flags, pointer_size, room, name, index, places=None):
+    return text_call(types, None, flags, pointer_size, room, places, lambda f: f.function(name, index))
 
 
-def format_id(types, ids, flags, pointer_size, room, index):
-    return text_call(types, ids, flags, pointer_size, room, lambda f: f.id(index))
+def format_id(types, ids, flags, pointer_size, room, index, places=None):
+    return text_call(types, ids, flags, pointer_size, room, places, lambda f: f.id(index))
 
 
-def format_type(types, flags, pointer_size, room, index):
-    return text_call(types, None, flags, pointer_size, room, lambda f: f.type_index(index, Open()))
+def format_type(types, flags, pointer_size, room, index, places=None):
+    return text_call(types, None, flags, pointer_size, room, places, lambda f: f.type_index(index, Open()))
 
 
-def get_type_size(types, pointer_size, index):
+def get_type_size(types, pointer_size, index, places=None):
     try:
         check_size(pointer_size)
-        return 0, 0, Formatter(Stream(types, 0), None, 0, pointer_size, 0).size(index)
+        return 0, 0, Formatter(*check_streams(types, None, places), 0, pointer_size, 0).size(index)
     except Refused as refused:
+        return refused.number, refused.detail, None
+
+
+def fill_places(types, places):
+    """The pass: (number, detail, how many entries at the front of the lent list are filled). Those past them stay; a refusal leaves zeros in all."""
+    try:
+        found = Stream(types, 0).places
+        if len(places) < len(found):
+            raise Refused(17, len(places))
+        places[:len(found)] = found
+        return 0, 0, len(found)
+    except Refused as refused:
+        places[:] = [0] * len(places)
         return refused.number, refused.detail, None
 
 
@@ -696,8 +739,8 @@ def line(number, answer):
     return head + b" " + (value if isinstance(value, bytes) else b"%d" % value) + b"\n"
 
 
-def sheet(types, ids, commands):
-    """The output of `names`, from the bytes of its three files."""
+def sheet(types, ids, commands, places=None):
+    """The output of `names`, from the bytes of its three files; with places, that of the same calls that take them."""
     types, ids, commands = types[:16384], ids[:16384], commands[:16384]
     flags, pointer_size, number, at, out = 0, 8, 0, 0, b""
     widths = {0x01: 4, 0x02: 1, 0x10: 4, 0x11: 4, 0x12: 4, 0x13: 20}
@@ -715,15 +758,27 @@ def sheet(types, ids, commands):
         else:
             number += 1
             if command == 0x10:
-                answer = format_type(types, flags, pointer_size, 4096, value)
+                answer = format_type(types, flags, pointer_size, 4096, value, places)
             elif command == 0x11:
-                answer = get_type_size(types, pointer_size, value)
+                answer = get_type_size(types, pointer_size, value, places)
             elif command == 0x12:
-                answer = format_id(types, ids, flags, pointer_size, 4096, value)
+                answer = format_id(types, ids, flags, pointer_size, 4096, value, places)
             else:
-                answer = format_function(types, flags, pointer_size, 4096, fields[4:].split(b"\0")[0], value)
+                answer = format_function(types, flags, pointer_size, 4096, fields[4:].split(b"\0")[0], value, places)
             out += line(number, answer)
     return out
+
+
+def pass_line(types, length):
+    """What the pass gives over a buffer of so many entries: that length, refusal or 0, detail, then the entries filled; `zeros` where it was refused."""
+    places = [0xaaaaaaaa] * length
+    refusal, detail, filled = fill_places(types[:16384], places)
+    rest = [b"zeros"] if refusal else [b"%d" % place for place in places[:filled]]
+    return b" ".join([b"%d %d 0x%x" % (length, refusal, detail)] + rest) + b"\n"
+
+
+def passes(types, lengths):
+    return b"".join(pass_line(types, length) for length in lengths)
 
 
 def load(*path):
@@ -737,8 +792,41 @@ def expected(folder):
     return load(folder, next((name for name in later if os.path.exists(os.path.join(folder, name))), "expected.txt"))
 
 
-def run_sheet(folder):
-    return sheet(load(folder, "types.bin"), load(folder, "ids.bin"), load(folder, "sheet.bin"))
+def run_sheet(folder, places=None):
+    return sheet(load(folder, "types.bin"), load(folder, "ids.bin"), load(folder, "sheet.bin"), places)
+
+
+def numbers(data):
+    """The u32 of a file, little-endian."""
+    return [int.from_bytes(data[at:at + 4], "little") for at in range(0, len(data) - 3, 4)]
+
+
+def lengths(lines):
+    """The lengths of the lent buffer that pass.txt has lines for."""
+    return [int(told.split()[0]) for told in lines.splitlines()]
+
+
+def sheet_outputs(folder):
+    """What was read and what is expected, for each file of a case."""
+    return [(run_sheet(folder), expected(folder))]
+
+
+def places_outputs(folder):
+    told = load(folder, "pass.txt")
+    return [(run_sheet(folder, numbers(load(folder, "places.bin"))), expected(folder)), (passes(load(folder, "types.bin"), lengths(told)), told)]
+
+
+def compare(folders, what, outputs):
+    """Says which folders differ from what is expected of them and where first, and how many do."""
+    wrong = 0
+    for folder in folders:
+        differing = [pair for pair in outputs(folder) if pair[0] != pair[1]]
+        wrong += len(differing) > 0
+        for got, right in differing:
+            pairs = zip(got.split(b"\n"), right.split(b"\n"))
+            print(folder, "differs:", next((p for p in pairs if p[0] != p[1]), "in length"))
+    print(len(folders), what + ",", wrong, "differ")
+    sys.exit(wrong > 0)
 
 
 def vectors(folder, name):
@@ -766,15 +854,9 @@ def main():
     if mode == "sheet":
         sys.stdout.buffer.write(run_sheet(rest[0]))
     elif mode == "sheets":
-        wrong = 0
-        for folder in rest:
-            got, right = run_sheet(folder), expected(folder)
-            if got != right:
-                wrong += 1
-                pairs = zip(got.split(b"\n"), right.split(b"\n"))
-                print(folder, "differs:", next((p for p in pairs if p[0] != p[1]), "in length"))
-        print(len(rest), "sheets,", wrong, "differ")
-        sys.exit(wrong > 0)
+        compare(rest, "sheets", sheet_outputs)
+    elif mode == "places":
+        compare(rest, "cases of places", places_outputs)
     elif mode == "vectors":
         for name in load(rest[0], "args").decode().split():
             sys.stdout.buffer.write(vectors(rest[0], name))
