@@ -7,21 +7,22 @@
  * What a call asks of its caller is what C cannot state in a type:
  *
  * - No pointer is null, one with a length of 0 too. Each is aligned and points to as many elements as its length says, of at most PTRDIFF_MAX bytes.
- * - What a call writes (out, checked where it is filled, answers, detail, text_len, size, bytes, lines, at, len) overlaps nothing else that it is lent, and
- *   no other thread touches it during the call. What it only reads is changed by no one during the call. Calls from any number of threads may share what is
- *   only read.
+ * - What a call writes (out, checked and places where they are filled, answers, detail, text_len, size, bytes, lines, at, len, filled) overlaps nothing else
+ *   that it is lent, and no other thread touches it during the call. What it only reads is changed by no one during the call. Calls from any number of
+ *   threads may share what is only read.
  * - 512 KiB of stack. A thread of glibc has 8 MiB where nothing else is said.
  *
  * A call keeps nothing, allocates nothing and calls nothing but memcpy and memset.
  *
- * Time. The plain calls pass over all records of their streams first, to check them. For many calls over the same streams check these once, below: then a
- * call takes as long as its text asks for, however long the streams are; or put the calls into a sheet. (docs/BENCHMARKS.md has figures.)
+ * Time. The plain calls pass over all records of their streams first, to check them; those over places do so too, and look types up faster then. For many
+ * calls over the same streams check these once, below: then a call takes as long as its text asks for, however long the streams are; or put the calls into
+ * a sheet. (docs/BENCHMARKS.md has figures.)
  *
  * Streams that are made to take long are bounded by a product. For each byte of text that out has room for, a call opens at most 95 indexes. To open one it
- * passes over the records from the nearest noted place on, at most as many as these are apart (stride less one; in a plain call up to a 64th of the
- * stream's records, in a sheet up to a 1,024th), compares the index with those that are open, at most 96, and reads the record, which can have a name of
- * 65,000 bytes. For each array that it writes, which takes two bytes of text at least, it can pass once over all records behind the declaration of a
- * struct, to find its definition. So
+ * passes over the records from the nearest noted place on, at most as many as these are apart (stride less one; 63 types in a call over places; in a plain
+ * call up to a 64th of the stream's records, in a sheet up to a 1,024th), compares the index with those that are open, at most 96, and reads the record,
+ * which can have a name of 65,000 bytes. For each array that it writes, which takes two bytes of text at least, it can pass once over all records behind
+ * the declaration of a struct, to find its definition. So
  *
  *     time of a call <= the check + out_len * (95 openings + half a pass over the type stream)
  *
@@ -38,9 +39,9 @@ extern "C" {
 #endif
 
 #define YOKBERD_VERSION_MAJOR 0
-#define YOKBERD_VERSION_MINOR 4
+#define YOKBERD_VERSION_MINOR 5
 #define YOKBERD_VERSION_PATCH 0
-#define YOKBERD_VERSION "0.4.0"
+#define YOKBERD_VERSION "0.5.0"
 
 /* Flags, to be added up. Another bit is refused: YOKBERD_UNKNOWN_FLAGS. */
 #define YOKBERD_NO_FUNCTION_RETURN 0x01u        /* no result before the function's name */
@@ -72,7 +73,8 @@ enum yokberd_number {
     YOKBERD_TOO_MANY_OPEN = 13,                                  /* the 97th index that would be open at once */
     YOKBERD_CHAIN_TOO_LONG = 14,                                 /* the 33rd record of a chain of array levels, size steps or id scopes */
     YOKBERD_NO_ROOM = 15,                                        /* 0: the text is longer than out */
-    YOKBERD_UNKNOWN_COMMAND = 16                                 /* the command byte; only a line of a sheet has this number */
+    YOKBERD_UNKNOWN_COMMAND = 16,                                /* the command byte; only a line of a sheet has this number */
+    YOKBERD_WRONG_PLACE = 17                                     /* which entry of the places, from 0, is the first lacking or not that of the stream */
 };
 
 /* A number of these in words. */
@@ -95,6 +97,7 @@ static inline const char *yokberd_refusal_text(uint32_t number) {
     case YOKBERD_CHAIN_TOO_LONG: return "a chain of array levels, size steps or id scopes has more than 32 records";
     case YOKBERD_NO_ROOM: return "the text is longer than its buffer";
     case YOKBERD_UNKNOWN_COMMAND: return "a command of a sheet is unknown or cut";
+    case YOKBERD_WRONG_PLACE: return "an entry of the places is lacking or not that of the type stream";
     default: return "no refusal has this number";
     }
 }
@@ -229,6 +232,44 @@ uint32_t yokberd_checked_format_type(const uint8_t *types, size_t types_len, con
 
 uint32_t yokberd_checked_get_type_size(const uint8_t *types, size_t types_len, const uint32_t *checked, size_t checked_len, uint32_t pointer_size,
                                        uint32_t index, uint32_t *detail, uint64_t *size);
+
+/* Record places kept beside the type stream, from run to run.
+ *
+ * yokberd_fill_places fills the front of places: entry k is the number of bytes from the first byte of the stream, which is its header's, to the length
+ * field of record 64 * k, counted from 0.
+ *
+ *   places          the entries to fill. A stream of n records needs (n + 63) / 64 of them: types_len / 256 + 1 always serve, and so do YOKBERD_PLACES
+ *
+ * Filled: returns YOKBERD_ACCEPTED. *filled is how many entries were filled, and those behind them are as they were. *detail is 0.
+ *
+ * Refused: returns YOKBERD_HEADER or YOKBERD_TILING, and *detail is 0; or YOKBERD_WRONG_PLACE where entries lack, and *detail is the number of the first of
+ * these, which is places_len. *filled is 0, and every entry is 0.
+ *
+ * The four calls below it take any numbers for places, and check them. Where the plain call gives none of 1 to 4, and an entry that the stream needs is
+ * lacking or is another, a call is refused by YOKBERD_WRONG_PLACE, whatever it asks for: *detail is the number of the first such entry, *text_len or *size
+ * is 0, and every byte of out is 0. Entries behind those are never read. Otherwise the answer is that of the plain call, with the buffer, on all inputs. So
+ * places may be kept in a file and lent again: those of other bytes are never believed.
+ *
+ * Each call passes over all record heads of its streams once, as a plain one does, and compares the entries on the way; then a look-up passes over at most
+ * 63 types. Of ids there are no places: they are looked up as in a plain call. For many calls in one run check the streams once, above: those calls pass
+ * over nothing first, but go by any numbers that they are lent.
+ */
+#define YOKBERD_PLACES 65536
+uint32_t yokberd_fill_places(const uint8_t *types, size_t types_len, uint32_t *places, size_t places_len, uint32_t *detail, size_t *filled);
+
+uint32_t yokberd_placed_format_function(const uint8_t *types, size_t types_len, const uint32_t *places, size_t places_len, uint8_t *out, size_t out_len,
+                                        uint32_t flags, uint32_t pointer_size, const uint8_t *name, size_t name_len, uint32_t index, uint32_t *detail,
+                                        size_t *text_len);
+
+uint32_t yokberd_placed_format_id(const uint8_t *types, size_t types_len, const uint8_t *ids, size_t ids_len, const uint32_t *places, size_t places_len,
+                                  uint8_t *out, size_t out_len, uint32_t flags, uint32_t pointer_size, uint32_t index, uint32_t *detail,
+                                  size_t *text_len);
+
+uint32_t yokberd_placed_format_type(const uint8_t *types, size_t types_len, const uint32_t *places, size_t places_len, uint8_t *out, size_t out_len,
+                                    uint32_t flags, uint32_t pointer_size, uint32_t index, uint32_t *detail, size_t *text_len);
+
+uint32_t yokberd_placed_get_type_size(const uint8_t *types, size_t types_len, const uint32_t *places, size_t places_len, uint32_t pointer_size,
+                                      uint32_t index, uint32_t *detail, uint64_t *size);
 
 /* Many ids, or many types, in one call, with each stream checked once; the last two go by the numbers of yokberd_check_streams and check none.
  *
