@@ -2,8 +2,9 @@
 # Compiles c/example.c against c/yokberd.h and the library, runs it on a shipped pair of streams, and compares what it prints: the ids with the lines of
 # crates/test_vectors/stdout, which a reading of document 01 in Python made, the rest with lines worked out by hand; and once more with no ids. Then c/pdb.c,
 # which names the ids of a .pdb file in batches, on the same pair inside such a file, which tools/msf.py makes, and on files without ids. Then c/checked.c on
-# all shipped pairs and damaged copies: calls over streams checked once against the plain ones, and over any numbers. All once more under a sanitizer, and,
-# where it is installed, under valgrind; and c/pdb.c once more as yokberd.pc says that it is built.
+# all shipped pairs and damaged copies: calls over streams checked once against the plain ones, and over any numbers; and c/places.c on the same, longer
+# ones too: places filled, and calls over right, longer, short and wrong places. All once more under a sanitizer, and, where it is installed, under valgrind;
+# and c/pdb.c once more as yokberd.pc says that it is built.
 #
 #     tools/staticlib.sh && tools/test-c.sh
 #
@@ -71,7 +72,7 @@ compare_pdb() {
 sed -n '/pub fn number/,/pub fn detail/s/^ *Refusal::\([A-Za-z]*\).* => \([0-9]*\),$/\1 \2/p' crates/streams/src/refusal.rt |
     sed 's/\([a-z]\)\([A-Z]\)/\1_\2/g' | tr '[:lower:]' '[:upper:]' >"$work/numbers"
 sed -n '/^enum yokberd_number/,/^}/s/^ *YOKBERD_\([A-Z_]*\) = \([1-9][0-9]*\).*/\1 \2/p' c/yokberd.h >"$work/named"
-[ "$(wc -l <"$work/numbers")" -eq 16 ]
+[ "$(wc -l <"$work/numbers")" -eq 17 ]
 cmp "$work/numbers" "$work/named"
 cat crates/msf/src/*.rt | sed -n '/pub fn number/,/pub fn place/s/^ *Damage::\([A-Za-z]*\).* => \([0-9]*\),$/\1 \2/p' |
     sed 's/\([a-z]\)\([A-Z]\)/\1_\2/g' | tr '[:lower:]' '[:upper:]' >"$work/numbers"
@@ -86,7 +87,7 @@ cmp "$work/flags" "$work/named"
 sed -n 's/^version = "\(.*\)"$/#define YOKBERD_VERSION "\1"/p' rust/Cargo.toml >"$work/version"
 grep -qxFf "$work/version" c/yokberd.h
 sed -n 's/^#define YOKBERD_VERSION_[A-Z]* //p' c/yokberd.h | paste -sd. | sed 's/.*/#define YOKBERD_VERSION "&"/' | cmp - "$work/version"
-echo "test-c: the header names the library's 16 refusals, 12 cases of the container and 6 flags, and the version of the Rust crate"
+echo "test-c: the header names the library's 17 refusals, 12 cases of the container and 6 flags, and the version of the Rust crate"
 
 "$cc" -std=c99 -Wall -Wextra -Wpedantic -Werror -O2 -Ic -o "$work/example" c/example.c "$archive"
 compare "$work/example"
@@ -120,6 +121,9 @@ fi
     "$cc" -std=c99 -Wall -Wextra -Wpedantic -Werror -O2 -Ic -o "$work/checked" c/checked.c "$archive"
     "$work/checked" $pairs >"$work/said"
     echo "test-c: streams checked once: $(cat "$work/said")"
+    "$cc" -std=c99 -Wall -Wextra -Wpedantic -Werror -O2 -Ic -o "$work/places" c/places.c "$archive"
+    "$work/places" $pairs >"$work/said"
+    echo "test-c: places: $(cat "$work/said")"
     sanitized="$cc -std=c99 -g -fsanitize=address,undefined -fno-sanitize-recover=all -Ic"
     $sanitized -o "$work/sanitized" c/example.c "$archive"
     compare "$work/sanitized"
@@ -127,11 +131,14 @@ fi
     compare_pdb "$work/pdb-sanitized"
     $sanitized -o "$work/checked-sanitized" c/checked.c "$archive"
     "$work/checked-sanitized" $pairs >/dev/null
+    $sanitized -o "$work/places-sanitized" c/places.c "$archive"
+    "$work/places-sanitized" $pairs >/dev/null
     echo "test-c: the same with the address and undefined behaviour sanitizers"
     if command -v valgrind >/dev/null; then
         compare valgrind -q --error-exitcode=1 --leak-check=full "$work/example"
         compare_pdb valgrind -q --error-exitcode=1 --leak-check=full "$work/pdb"
         valgrind -q --error-exitcode=1 --leak-check=full "$work/checked" $pairs >/dev/null
+        valgrind -q --error-exitcode=1 --leak-check=full "$work/places" $pairs >/dev/null
         echo "test-c: the same under valgrind"
     fi
 }
