@@ -159,6 +159,60 @@ mod library {
             bytes: *mut usize,
             lines: *mut usize,
         ) -> u32;
+        pub fn yokberd_fill_places(types: *const u8, types_len: usize, places: *mut u32, places_len: usize, detail: *mut u32, filled: *mut usize) -> u32;
+        pub fn yokberd_placed_format_function(
+            types: *const u8,
+            types_len: usize,
+            places: *const u32,
+            places_len: usize,
+            out: *mut u8,
+            out_len: usize,
+            flags: u32,
+            pointer_size: u32,
+            name: *const u8,
+            name_len: usize,
+            index: u32,
+            detail: *mut u32,
+            text_len: *mut usize,
+        ) -> u32;
+        pub fn yokberd_placed_format_id(
+            types: *const u8,
+            types_len: usize,
+            ids: *const u8,
+            ids_len: usize,
+            places: *const u32,
+            places_len: usize,
+            out: *mut u8,
+            out_len: usize,
+            flags: u32,
+            pointer_size: u32,
+            index: u32,
+            detail: *mut u32,
+            text_len: *mut usize,
+        ) -> u32;
+        pub fn yokberd_placed_format_type(
+            types: *const u8,
+            types_len: usize,
+            places: *const u32,
+            places_len: usize,
+            out: *mut u8,
+            out_len: usize,
+            flags: u32,
+            pointer_size: u32,
+            index: u32,
+            detail: *mut u32,
+            text_len: *mut usize,
+        ) -> u32;
+        pub fn yokberd_placed_get_type_size(
+            types: *const u8,
+            types_len: usize,
+            places: *const u32,
+            places_len: usize,
+            pointer_size: u32,
+            index: u32,
+            detail: *mut u32,
+            size: *mut u64,
+        ) -> u32;
     }
 }
 
@@ -350,4 +404,100 @@ pub fn print_sheet(types: &[u8], ids: &[u8], checked: &[u32], sheet: &[u8], out:
         )
     };
     Printed { bytes, lines, more: left != 0 }
+}
+
+/// The places of every 64th type record in the front of `places`, and how many these are.
+pub fn fill_places(types: &[u8], places: &mut [u32]) -> Result<usize, Error> {
+    let (mut detail, mut filled) = (0, 0);
+    // SAFETY: the pointers and lengths are those of slices that live through the call, and `places` and the two numbers are lent to it alone.
+    let number = unsafe { library::yokberd_fill_places(types.as_ptr(), types.len(), places.as_mut_ptr(), places.len(), &mut detail, &mut filled) };
+    answer(number, detail, filled)
+}
+
+/// The text of a function in the start of `out`, and its length, over places of any numbers.
+pub fn placed_format_function(
+    types: &[u8],
+    places: &[u32],
+    out: &mut [u8],
+    flags: u32,
+    pointer_size: u32,
+    name: &[u8],
+    index: u32,
+) -> Result<usize, Error> {
+    let (mut detail, mut text_len) = (0, 0);
+    // SAFETY: as in `format_function`.
+    let number = unsafe {
+        library::yokberd_placed_format_function(
+            types.as_ptr(),
+            types.len(),
+            places.as_ptr(),
+            places.len(),
+            out.as_mut_ptr(),
+            out.len(),
+            flags,
+            pointer_size,
+            name.as_ptr(),
+            name.len(),
+            index,
+            &mut detail,
+            &mut text_len,
+        )
+    };
+    answer(number, detail, text_len)
+}
+
+/// The text of an id in the same form.
+pub fn placed_format_id(types: &[u8], ids: &[u8], places: &[u32], out: &mut [u8], flags: u32, pointer_size: u32, index: u32) -> Result<usize, Error> {
+    let (mut detail, mut text_len) = (0, 0);
+    // SAFETY: as in `format_function`.
+    let number = unsafe {
+        library::yokberd_placed_format_id(
+            types.as_ptr(),
+            types.len(),
+            ids.as_ptr(),
+            ids.len(),
+            places.as_ptr(),
+            places.len(),
+            out.as_mut_ptr(),
+            out.len(),
+            flags,
+            pointer_size,
+            index,
+            &mut detail,
+            &mut text_len,
+        )
+    };
+    answer(number, detail, text_len)
+}
+
+/// The text of a type in the same form.
+pub fn placed_format_type(types: &[u8], places: &[u32], out: &mut [u8], flags: u32, pointer_size: u32, index: u32) -> Result<usize, Error> {
+    let (mut detail, mut text_len) = (0, 0);
+    // SAFETY: as in `format_function`.
+    let number = unsafe {
+        library::yokberd_placed_format_type(
+            types.as_ptr(),
+            types.len(),
+            places.as_ptr(),
+            places.len(),
+            out.as_mut_ptr(),
+            out.len(),
+            flags,
+            pointer_size,
+            index,
+            &mut detail,
+            &mut text_len,
+        )
+    };
+    answer(number, detail, text_len)
+}
+
+/// The size of a type over places of any numbers.
+pub fn placed_get_type_size(types: &[u8], places: &[u32], pointer_size: u32, index: u32) -> Result<u64, Error> {
+    let (mut detail, mut size) = (0, 0);
+    // SAFETY: as in `format_function`.
+    let number = unsafe {
+        library::yokberd_placed_get_type_size(types.as_ptr(), types.len(), places.as_ptr(), places.len(), pointer_size, index, &mut detail, &mut size)
+    };
+    answer(number, detail, size)
 }

@@ -1,4 +1,4 @@
-//! Why a call is refused: the library's sixteen numbers, each with its one detail.
+//! Why a call is refused: the library's seventeen numbers, each with its one detail.
 use std::fmt;
 
 /// One of the two streams.
@@ -59,6 +59,9 @@ pub enum Error {
     NoRoom,
     /// 16: an unknown or cut command. Only a line of a sheet has it.
     UnknownCommand(u8),
+    /// 17: an entry of the lent places is lacking, or is not that of the type stream; its number, from 0. Only a
+    /// [`PlacedFormatter`](crate::PlacedFormatter) and [`fill_places_into`](crate::fill_places_into) give it.
+    WrongPlace(u32),
 }
 
 impl StreamKind {
@@ -107,11 +110,12 @@ impl Error {
             14 => Error::ChainTooLong(detail),
             15 if detail == 0 => Error::NoRoom,
             16 => Error::UnknownCommand(detail.try_into().ok()?),
+            17 => Error::WrongPlace(detail),
             _ => return None,
         })
     }
 
-    /// The refusal's number, 1 to 16; 0 for [`Error::FormatError`], which is none.
+    /// The refusal's number, 1 to 17; 0 for [`Error::FormatError`], which is none.
     pub const fn number(&self) -> u32 {
         match self {
             Error::FormatError(_) => 0,
@@ -131,10 +135,11 @@ impl Error {
             Error::ChainTooLong(_) => 14,
             Error::NoRoom => 15,
             Error::UnknownCommand(_) => 16,
+            Error::WrongPlace(_) => 17,
         }
     }
 
-    /// The refusal's one detail: an index, a kind, the flags, or what else its case holds.
+    /// The refusal's one detail: an index, a kind, the flags, an entry, or what else its case holds.
     pub const fn detail(&self) -> u32 {
         match self {
             Error::FormatError(_) | Error::NoRoom => 0,
@@ -151,7 +156,8 @@ impl Error {
             | Error::MemberFunctionIdIsNotMemberFunctionType(detail)
             | Error::CircularTypeDefinition(detail)
             | Error::TooManyOpen(detail)
-            | Error::ChainTooLong(detail) => *detail,
+            | Error::ChainTooLong(detail)
+            | Error::WrongPlace(detail) => *detail,
         }
     }
 }
@@ -184,6 +190,7 @@ impl fmt::Display for Error {
             }
             Error::NoRoom => f.write_str("the text is longer than its buffer or its limit"),
             Error::UnknownCommand(command) => write!(f, "the command {command:#x} of a sheet is unknown or cut"),
+            Error::WrongPlace(entry) => write!(f, "entry {entry} of the places is lacking or not that of the type stream"),
         }
     }
 }

@@ -1,6 +1,6 @@
 //! `TypeFormatter`: the API of the original over the proved library.
+use crate::text::{self, into_string, write_text};
 use crate::{boundary, BatchAnswer, Error, IdIndex, Printed, Sheet, TypeFormatterFlags, TypeIndex};
-use std::cell::Cell;
 use std::fmt::Write;
 use std::ops::Range;
 
@@ -15,17 +15,6 @@ const STRIDE: u32 = 8;
 /// The longest stream that is not refused, in bytes.
 pub const STREAM_LIMIT: usize = 1 << 24;
 
-// A text is written into a buffer of its thread and then copied out. Where it does not fit, it is asked for again with a buffer so many times as long. The
-// thread keeps one of this length at most: what is kept and lent is filled with zeros by a refused call.
-const FIRST_BUFFER: usize = 1 << 12;
-const GROWTH: usize = 4;
-const KEPT_BUFFER: usize = 1 << 16;
-
-thread_local! {
-    // Taken while it is in use: a writer that asks for a text inside another has a new one.
-    static BUFFER: Cell<Vec<u8>> = const { Cell::new(Vec::new()) };
-}
-
 // A buffer for a sheet's lines, of which any one has at most 4,150 bytes, and for the texts of a batch.
 const PAGE: usize = 1 << 16;
 
@@ -39,7 +28,9 @@ const BATCH: usize = 1 << 10;
 /// then: each call over it is refused, and the others are not. Every call ends, and its answer is the one that the library is proved to give, whatever was
 /// asked before.
 ///
-/// A look-up starts at a noted place, so a call does not take longer on longer streams. What does bound its time is said at the [crate](crate#time).
+/// A look-up starts at a noted place, so a call does not take longer on longer streams. What does bound its time is said at the [crate](crate#time). Who
+/// uses a formatter need not mind places: it fills its own, nearer ones and of both streams, once. [`PlacedFormatter`](crate::PlacedFormatter) is for
+/// places that are kept from run to run.
 ///
 /// A text is UTF-8: each ill-formed part of a record's name is replaced by U+FFFD, as the original replaces it. Only the name that is given to a call of a
 /// function stays as it is, and as bytes it may be ill-formed. The calls named as in the original give the text as a `String`; those with `_bytes` give its
@@ -290,25 +281,8 @@ impl<'a> TypeFormatter<'a> {
         all
     }
 
-    // What is made of a text, which is written into a buffer that is long enough for it, up to the limit.
     fn text<T>(&self, call: impl Fn(&mut [u8]) -> Result<usize>, made_of: impl FnOnce(&[u8]) -> T) -> Result<T> {
-        let mut buffer = BUFFER.try_with(Cell::take).unwrap_or_default();
-        if buffer.is_empty() {
-            buffer = vec![0; FIRST_BUFFER];
-        }
-        let answer = loop {
-            let room = buffer.len().min(self.text_limit);
-            match call(&mut buffer[..room]) {
-                Err(Error::NoRoom) if room < self.text_limit => buffer = vec![0; room.saturating_mul(GROWTH).min(self.text_limit)],
-                answer => break answer,
-            }
-        };
-        let made = answer.map(|text_len| made_of(&buffer[..text_len]));
-        if buffer.len() <= KEPT_BUFFER {
-            // a thread that ends has no place to keep it any more
-            let _ = BUFFER.try_with(|kept| kept.set(buffer));
-        }
-        made
+        text::of(self.text_limit, call, made_of)
     }
 }
 
@@ -319,23 +293,19 @@ fn check(types: &[u8], ids: &[u8]) -> Vec<u32> {
     checked
 }
 
-// Numbers for a stream: ten for what is known of it, and its places, by what its header says of its records. Each of these has four bytes at least, and a
-// stream that is longer than the limit is refused, so a header that says more makes no buffer longer.
+// Numbers for a stream: ten for what is known of it, and its places.
 fn numbers(stream: &[u8]) -> usize {
-    header_indexes(stream).len().min(stream.len().min(STREAM_LIMIT) / 4).div_ceil(STRIDE as usize) + 10
+    record_limit(stream).div_ceil(STRIDE as usize) + 10
+}
+
+/// The records of a stream that is not refused, by what its header says of them. Each has four bytes at least, and a stream that is longer than the limit is
+/// refused, so a header that says more makes no buffer longer.
+pub fn record_limit(stream: &[u8]) -> usize {
+    header_indexes(stream).len().min(stream.len().min(STREAM_LIMIT) / 4)
 }
 
 // The first index and the one behind the last, as the header has them; none where it has fewer bytes.
 fn header_indexes(stream: &[u8]) -> Range<u32> {
     let word = |at: usize| stream.get(at..at + 4).map_or(0, |bytes| u32::from_le_bytes([bytes[0], bytes[1], bytes[2], bytes[3]]));
     word(8)..word(12)
-}
-
-// The text. All that a `String` is made of is UTF-8: names of records as they are shown, and a name that is given as a `str`.
-fn into_string(text: &[u8]) -> String {
-    String::from_utf8_lossy(text).into_owned()
-}
-
-fn write_text(w: &mut impl Write, text: &[u8]) -> Result<()> {
-    Ok(w.write_str(&String::from_utf8_lossy(text))?)
 }

@@ -28,6 +28,9 @@
 //! A [`TypeFormatter`] passes over the records of both streams once, when it is made. Its calls do not: on real streams a call takes as long as its text
 //! asks for, however long the streams are. docs/BENCHMARKS.md has figures, beside those of the original.
 //!
+//! A [`PlacedFormatter`] keeps nothing. Each of its calls passes over all record heads of its streams once, to check them and the lent places; then a
+//! look-up of a type passes at most 63 records, and one of an id up to a 64th of the id stream's.
+//!
 //! Streams that are made to take long are bounded by a product. For each byte of text that there is room for, a call opens at most 95 indexes. To open one
 //! it passes at most 7 records from a noted place, compares the index with those that are open, at most 96, and reads the record, which can have a name of
 //! 65,000 bytes. For each array that it writes, which takes two bytes of text at least, it can pass once over all records behind the declaration of a
@@ -36,7 +39,8 @@
 //! > time of a call ≤ bytes of text × (95 openings + half a pass over the type stream),
 //!
 //! and what a caller can choose is the first factor: the length of the buffer, or [`TypeFormatter::with_text_limit`]. A sheet has the same bound for each
-//! line, with 4,096 bytes of text, and there a look-up passes up to a 1,024th of the stream's records.
+//! line, with 4,096 bytes of text, and there a look-up passes up to a 1,024th of the stream's records. A call over places has it behind its check, with
+//! look-ups as above.
 #![warn(missing_docs)]
 
 mod boundary;
@@ -46,7 +50,9 @@ mod flags;
 mod formatter;
 mod index;
 mod pdb;
+mod places;
 mod sheet;
+mod text;
 
 pub use boundary::{BatchAnswer, Printed};
 pub use container::{read_stream, read_stream_into, stream_len, ContainerError, IDS_STREAM, TYPES_STREAM};
@@ -55,4 +61,5 @@ pub use flags::TypeFormatterFlags;
 pub use formatter::{TypeFormatter, STREAM_LIMIT, TEXT_LIMIT};
 pub use index::{IdIndex, TypeIndex};
 pub use pdb::{Pdb, PdbError};
+pub use places::{fill_places, fill_places_into, PlacedFormatter, PLACES_LIMIT};
 pub use sheet::{Sheet, NAME_WIDTH};
