@@ -2,17 +2,17 @@
  *
  *     places TYPES IDS ..
  *
- * For each pair of files, for types with the same records many times over, and for damaged copies: yokberd_fill_places leaves in buffers of several lengths
- * what yokberd.h says, with places that are found here by going from record to record; over right and longer places the calls answer as the plain ones do,
- * buffers too; short and wrong ones are refused by their first entry that is not right. Prints how many buffers were filled and how many calls were
- * compared. The status is 1 where something differs. */
+ * For each pair of files, for types with fewer and more of the same records, and for damaged copies: yokberd_fill_places leaves in buffers of several
+ * lengths what yokberd.h says, with places that are found here by going from record to record; over right and longer places the calls answer as the plain
+ * ones do, buffers too; short and wrong ones are refused by their first entry that is not right. Prints how many buffers were filled and how many calls
+ * were compared. The status is 1 where something differs. */
 #include <stdio.h>
 #include <stdlib.h>
 #include <string.h>
 
 #include "yokberd.h"
 
-enum { ROOM = 600, HEADER = 56, APART = 64, SETTINGS = 6, ROUNDS = 9 };
+enum { ROOM = 600, HEADER = 56, APART = 64, SETTINGS = 6, ROUNDS = 40 };
 
 struct bytes {
     uint8_t *at;
@@ -96,17 +96,31 @@ static uint32_t record_count(struct bytes stream) {
     return word(stream, 12) - word(stream, 8);
 }
 
-/* The same records so many times over, under a header that says so; no bytes stay so. */
-static struct bytes repeated(struct bytes from, uint32_t times) {
-    size_t body = word(from, 16), len = from.len == 0 ? 0 : HEADER + body * times;
-    struct bytes to = {room_for(len), len};
-    if (len == 0)
-        return to;
+static size_t record_len(struct bytes stream, size_t at) {
+    return 2 + (stream.at[at] | (size_t)stream.at[at + 1] << 8);
+}
+
+static struct bytes copy(struct bytes from) {
+    struct bytes to = {room_for(from.len), from.len};
+    memcpy(to.at, from.at, from.len);
+    return to;
+}
+
+/* So many records, those of a stream over and over, under a header that says so. */
+static struct bytes with_records(struct bytes from, uint32_t count) {
+    uint32_t own = record_count(from);
+    struct bytes to = {room_for(HEADER + (count / own + 1) * (size_t)word(from, 16)), HEADER};
     memcpy(to.at, from.at, HEADER);
-    for (uint32_t i = 0; i < times; i++)
-        memcpy(to.at + HEADER + body * i, from.at + HEADER, body);
-    put(to.at + 12, word(from, 8) + record_count(from) * times);
-    put(to.at + 16, (uint32_t)(body * times));
+    size_t at = HEADER;
+    for (uint32_t i = 0; i < count; i++) {
+        at = i % own == 0 ? HEADER : at;
+        size_t len = record_len(from, at);
+        memcpy(to.at + to.len, from.at + at, len);
+        to.len += len;
+        at += len;
+    }
+    put(to.at + 12, word(from, 8) + count);
+    put(to.at + 16, (uint32_t)(to.len - HEADER));
     return to;
 }
 
@@ -125,7 +139,7 @@ static struct places right_places(struct bytes types) {
     for (uint32_t i = 0; i < count; i++) {
         if (i % APART == 0)
             right.at[right.len++] = (uint32_t)at;
-        at += 2 + (types.at[at] | (size_t)types.at[at + 1] << 8);
+        at += record_len(types, at);
     }
     return right;
 }
@@ -279,13 +293,13 @@ static int compare(struct bytes types, struct bytes ids, long *buffers, long *ca
 }
 
 int main(int argc, char **argv) {
-    static const uint32_t times[] = {1, 2, 7};
+    static const uint32_t counts[] = {0, 1, 63, 64, 65, 128, 129, 192, 1000};
     long buffers = 0, calls = 0;
     for (int pair = 1; pair + 1 < argc; pair += 2) {
         struct bytes types = read_file(argv[pair]), ids = read_file(argv[pair + 1]);
         for (int round = 0; round < ROUNDS; round++) {
-            struct bytes t = repeated(types, times[round % 3]), i = repeated(ids, 1);
-            for (int hurt = 0; hurt < round / 3; hurt++)
+            struct bytes t = round % 10 == 0 ? copy(types) : with_records(types, counts[round % 10 - 1]), i = copy(ids);
+            for (int hurt = 0; hurt < round / 10; hurt++)
                 damage(below(2) ? &t : &i);
             int good = compare(t, i, &buffers, &calls);
             free(t.at);
