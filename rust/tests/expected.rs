@@ -292,7 +292,7 @@ fn a_sheet_in_every_room() {
 
 #[test]
 fn every_refusal_in_words() {
-    for number in 1..=16 {
+    for number in 1..=17 {
         let error = Error::from_refusal(number, 0).unwrap();
         assert_eq!((error.number(), error.detail()), (number, 0));
         assert!(error.to_string().len() > 20, "{error}");
@@ -305,7 +305,7 @@ fn every_refusal_in_words() {
         }
     }
     assert_eq!(Error::from_refusal(0, 0), None);
-    assert_eq!(Error::from_refusal(17, 0), None);
+    assert_eq!(Error::from_refusal(18, 0), None);
     assert_eq!(Error::from_refusal(3, 2), None);
     assert_eq!(Error::from_refusal(7, 0x10000), None);
     assert_eq!(Error::from_refusal(15, 1), None);

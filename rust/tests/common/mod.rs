@@ -137,9 +137,13 @@ pub fn string_id(list: u32, name: &[u8]) -> Vec<u8> {
 
 /// A stream of records from `FIRST` on.
 pub fn stream(records: &[Vec<u8>]) -> Vec<u8> {
-    let body = records.concat();
+    stream_of(records.len() as u32, &records.concat())
+}
+
+/// A stream of so many records from `FIRST` on, by their bytes.
+pub fn stream_of(count: u32, body: &[u8]) -> Vec<u8> {
     let mut bytes = Vec::with_capacity(56 + body.len());
-    for word in [20040203, 56, FIRST, FIRST + records.len() as u32, body.len() as u32] {
+    for word in [20040203, 56, FIRST, FIRST + count, body.len() as u32] {
         bytes.extend(word.to_le_bytes());
     }
     bytes.resize(56, 0);
@@ -221,7 +225,7 @@ fn index(rng: &mut Rng, at: usize, count: usize) -> u32 {
     match rng.below(20) {
         0..=5 => rng.pick(&PRIMITIVES),
         6..=16 => FIRST + rng.below(at.max(1)) as u32,
-        17 | 18 => FIRST + rng.below(count) as u32,
+        17 | 18 => FIRST + rng.below(count.max(1)) as u32,
         _ => rng.pick(&[0x2000, 0x80001000, FIRST + count as u32, 0xffff_ffff]),
     }
 }
@@ -280,9 +284,14 @@ fn random_id(rng: &mut Rng, at: usize, count: usize, types: usize) -> Vec<u8> {
 /// Streams of random records, none of them cut.
 pub fn random_streams(rng: &mut Rng, case: usize) -> Streams {
     let (types, ids) = (1 + rng.below(60), 1 + rng.below(30));
+    random_streams_of(rng, format!("random {case}"), types, ids)
+}
+
+/// Streams of so many random records, none of them cut.
+pub fn random_streams_of(rng: &mut Rng, name: String, types: usize, ids: usize) -> Streams {
     let type_records: Vec<_> = (0..types).map(|at| random_type(rng, at, types)).collect();
     let id_records: Vec<_> = (0..ids).map(|at| random_id(rng, at, ids, types)).collect();
-    Streams { name: format!("random {case}"), types: stream(&type_records), ids: stream(&id_records), type_count: types as u32, id_count: ids as u32 }
+    Streams { name, types: stream(&type_records), ids: stream(&id_records), type_count: types as u32, id_count: ids as u32 }
 }
 
 /// Damage: bytes changed, a cut, bytes added, a broken header.
@@ -310,6 +319,12 @@ pub fn damage(rng: &mut Rng, bytes: &mut Vec<u8>) {
 /// Random streams, some of them damaged.
 pub fn hostile_streams(rng: &mut Rng, case: usize) -> Streams {
     let mut streams = random_streams(rng, case);
+    make_hostile(rng, &mut streams);
+    streams
+}
+
+/// Damages some of the streams that it is given.
+pub fn make_hostile(rng: &mut Rng, streams: &mut Streams) {
     if rng.one_in(3) {
         damage(rng, &mut streams.types);
     }
@@ -320,7 +335,6 @@ pub fn hostile_streams(rng: &mut Rng, case: usize) -> Streams {
     if rng.one_in(10) {
         streams.ids.clear();
     }
-    streams
 }
 
 /// A folder of this repository.
@@ -331,16 +345,24 @@ pub fn folder(path: &str) -> PathBuf {
 /// The kinds of records that the original writes as debug text.
 pub const UNHANDLED: [u16; 6] = [0x1203, 0x1205, 0x1206, 0x1603, 0x1606, 0x1607];
 
+fn half(stream: &[u8], at: usize) -> u16 {
+    u16::from_le_bytes([stream[at], stream[at + 1]])
+}
+
+/// Where each record of a well-formed stream stands.
+pub fn record_places(stream: &[u8]) -> Vec<usize> {
+    let mut at = 56;
+    let record = |_| {
+        let place = at;
+        at += 2 + usize::from(half(stream, at));
+        place
+    };
+    (0..record_count(stream)).map(record).collect()
+}
+
 /// The kind of each record of a well-formed stream.
 pub fn record_kinds(stream: &[u8]) -> Vec<u16> {
-    let half = |at: usize| u16::from_le_bytes([stream[at], stream[at + 1]]);
-    let mut kinds = Vec::new();
-    let mut at = 56;
-    for _ in 0..record_count(stream) {
-        kinds.push(half(at + 2));
-        at += 2 + usize::from(half(at));
-    }
-    kinds
+    record_places(stream).into_iter().map(|at| half(stream, at + 2)).collect()
 }
 
 fn record_count(stream: &[u8]) -> u32 {
