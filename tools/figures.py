@@ -1,5 +1,6 @@
 #!/usr/bin/env python3
-"""Puts the tables that tools/bench.sh and tools/hostile.sh print into a document, each in place of the table that stands there under the same heading.
+"""Puts the tables that tools/bench.sh and tools/hostile.sh print into a document, each in place of the table that stands there under the same heading, or
+behind the words of a heading that has no table yet.
 
     tools/bench.sh | python3 tools/figures.py docs/BENCHMARKS.md
     tools/hostile.sh | python3 tools/figures.py docs/BENCHMARKS.md
@@ -19,20 +20,35 @@ def tables(lines):
     return found
 
 
-def replaced(document, printed):
-    out, heading, done = [], None, set()
+def sections(document):
+    """The lines of a document, from heading to heading."""
+    parts = [[]]
     for line in document:
-        if line.startswith("## "):
-            heading = line
-        if line.startswith("|") and heading in printed:
-            if heading not in done:
-                out += printed[heading]
-                done.add(heading)
-        else:
-            out.append(line)
-    missing = set(printed) - done
+        if line.startswith(("# ", "## ")):
+            parts.append([])
+        parts[-1].append(line)
+    return parts
+
+
+def with_table(section, table):
+    """A section with this table in place of its own, or at its end."""
+    own = [at for at, line in enumerate(section) if line.startswith("|")]
+    words = [line for line in section if not line.startswith("|")]
+    if own:
+        return words[:own[0]] + table + words[own[0]:]
+    while words[-1] == "":
+        words.pop()
+    return words + [""] + table + [""]
+
+
+def replaced(document, printed):
+    out, missing = [], set(printed)
+    for section in sections(document):
+        heading = section[0] if section else None
+        out += with_table(section, printed[heading]) if heading in printed else section
+        missing.discard(heading)
     if missing:
-        sys.exit("figures: no table in the document under " + ", ".join(sorted(missing)))
+        sys.exit("figures: the document has no heading " + ", ".join(sorted(missing)))
     return out
 
 

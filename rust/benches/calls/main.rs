@@ -1,4 +1,5 @@
-//! Time and stack of the calls, side by side with the original, as Markdown tables. `tools/bench.sh` runs it; docs/BENCHMARKS.md has the figures of one run.
+//! Time and stack of the calls, side by side with the original, and of calls over kept places beside the plain ones, as Markdown tables. `tools/bench.sh`
+//! runs it; docs/BENCHMARKS.md has the figures of one run.
 //!
 //! A number as argument is the most bytes of a generated stream: with 0 there are the shipped streams only.
 #[path = "../../tests/original/asked.rs"]
@@ -11,6 +12,7 @@ mod generated;
 #[path = "../../tests/original/pdb_stand_in.rs"]
 #[allow(dead_code)]
 mod pdb_stand_in;
+mod placed;
 #[path = "../../tests/original/range_collections_stand_in.rs"]
 mod range_collections_stand_in;
 mod side_by_side;
@@ -42,12 +44,16 @@ fn main() {
     side_by_side::print("Shipped streams, in microseconds", &rows);
     let most = env::args().find_map(|argument| argument.parse().ok()).unwrap_or(usize::MAX);
     let sizes = SIZES.into_iter().filter(|size| *size <= most);
-    let generated: Vec<_> = sizes.flat_map(|size| side_by_side::compared(&generated::streams(size))).collect();
+    let generated: Vec<_> = sizes.clone().flat_map(|size| side_by_side::compared(&generated::streams(size))).collect();
     side_by_side::print("Generated streams, in microseconds", &generated);
     side_by_side::print_growth(&generated);
     rows.extend(generated);
     side_by_side::print_like_for_like("Like for like: ratios of other ways to call", &rows);
     side_by_side::print_targets(&rows);
+    let all: Vec<_> = common::real_streams().into_iter().chain(sizes.map(generated::streams)).collect();
+    placed::print_single(&all);
+    placed::print_check(&all);
+    placed::print_openings(most);
     texts::print();
     stack::print();
 }

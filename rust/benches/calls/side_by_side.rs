@@ -22,14 +22,14 @@ use yokberd::{BatchAnswer, Sheet, TypeFormatter, TypeFormatterFlags};
 const NAME: &str = "advance";
 
 // A single call walks over whole streams, so fewer of them are asked.
-const FEW: usize = 64;
+pub const FEW: usize = 64;
 const MANY: usize = 4096;
 
 // All of the many calls take no longer than so many seconds, each way.
 const PASS: f64 = 0.4;
 
 // The longest text of a sheet.
-const ROOM: usize = 4096;
+pub const ROOM: usize = 4096;
 
 #[derive(Clone, Copy, PartialEq)]
 pub enum Kind {
@@ -42,7 +42,7 @@ pub enum Kind {
 pub const KINDS: [Kind; 4] = [Kind::Function, Kind::Id, Kind::Type, Kind::Size];
 
 impl Kind {
-    fn name(self) -> &'static str {
+    pub fn name(self) -> &'static str {
         match self {
             Kind::Function => "function",
             Kind::Id => "id",
@@ -69,7 +69,8 @@ impl Kind {
         }
     }
 
-    fn calls(self, streams: &Streams) -> Vec<Call> {
+    /// The calls of this kind over all records of a pair of streams.
+    pub fn calls(self, streams: &Streams) -> Vec<Call> {
         let stream = if self == Kind::Id { &streams.ids } else { &streams.types };
         let kinds = record_kinds(stream);
         let asked = kinds.into_iter().zip(FIRST..).filter(|(kind, _)| self.asked_of(*kind));
@@ -100,16 +101,16 @@ pub struct Row {
     pub times: Times,
 }
 
-fn formatter(streams: &Streams) -> TypeFormatter<'_> {
+pub fn formatter(streams: &Streams) -> TypeFormatter<'_> {
     TypeFormatter::new_from_parts(&streams.types, &streams.ids, 8, TypeFormatterFlags::empty())
 }
 
-fn plain(streams: &Streams) -> Plain<'_> {
+pub fn plain(streams: &Streams) -> Plain<'_> {
     Plain { types: &streams.types, ids: &streams.ids, pointer_size: 8, flags: 0 }
 }
 
-// Ours into a buffer; a size is a number.
-fn ours(formatter: &TypeFormatter, call: Call, out: &mut [u8]) -> u64 {
+/// Ours into a buffer; a size is a number.
+pub fn ours(formatter: &TypeFormatter, call: Call, out: &mut [u8]) -> u64 {
     match call {
         Call::Function(name, index) => formatter.format_function_into(out, name, 0, index.into()).map_or(0, |len| len as u64),
         Call::Id(index) => formatter.format_id_into(out, 0, index.into()).map_or(0, |len| len as u64),
@@ -227,8 +228,8 @@ fn compare(streams: &Streams, few: &[Call], many: &[Call], warm: &Theirs) {
     }
 }
 
-// Some of the calls, all over them.
-fn spread(calls: &[Call], count: usize) -> Vec<Call> {
+/// Some of the calls, all over them.
+pub fn spread(calls: &[Call], count: usize) -> Vec<Call> {
     let count = count.min(calls.len());
     (0..count).map(|part| calls[(2 * part + 1) * calls.len() / (2 * count)]).collect()
 }
@@ -245,7 +246,8 @@ fn mixed(streams: &Streams, calls: &[Call]) -> Vec<Call> {
     mixed
 }
 
-fn each<'a, T>(calls: &'a [Call], mut ask: impl FnMut(Call) -> T + 'a) -> Contender<'a> {
+/// Each of the calls, asked in some way.
+pub fn each<'a, T>(calls: &'a [Call], mut ask: impl FnMut(Call) -> T + 'a) -> Contender<'a> {
     let work = move || {
         for call in calls {
             black_box(ask(*call));

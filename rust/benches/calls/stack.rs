@@ -4,11 +4,11 @@ use crate::common::{self, Call, FIRST};
 use crate::table::{head, row};
 use std::process::Command;
 use std::{env, fs};
-use yokberd::{Sheet, TypeFormatter, TypeFormatterFlags};
+use yokberd::{fill_places, PlacedFormatter, Sheet, TypeFormatter, TypeFormatterFlags};
 
 /// In a fresh process, which row of `deep_rows` to ask for and how: its number, a colon and one of `WAYS`; or `none`.
 pub const STACK_OF: &str = "YOKBERD_STACK_OF";
-const WAYS: [&str; 4] = ["plain", "checked", "sheet", "batch"];
+const WAYS: [&str; 5] = ["plain", "checked", "sheet", "batch", "placed"];
 
 // What no call may take.
 const MOST: u64 = 512;
@@ -35,6 +35,11 @@ pub fn after(row: &str) {
             "plain" => assert!(plain.ask(call, &mut out).is_ok()),
             "batch" => assert_eq!((plain.batch(Batch::Types, &[FIRST], &mut out, &mut answers), answers[0]), (1, 0)),
             "sheet" => assert!(formatter().print_sheet(&sheet, &mut out, 0).lines == 1),
+            "placed" => {
+                let places = fill_places(types).unwrap();
+                let placed = PlacedFormatter::new(types, types, &places, 8, TypeFormatterFlags::empty());
+                assert!(placed.format_type_into(&mut out, 0, FIRST.into()).is_ok());
+            }
             _ => assert!(call.ask(&formatter(), &mut out).is_ok()),
         }
     }
@@ -47,7 +52,8 @@ fn in_a_fresh_process(row: &str) -> u64 {
 }
 
 pub fn print() {
-    head("Stack of one call, in KiB", &["A row of as many open indexes as there may be", "Single", "Checked once", "In a sheet", "In a plain batch"]);
+    let columns = ["A row of as many open indexes as there may be", "Single", "Checked once", "In a sheet", "In a plain batch", "Over places"];
+    head("Stack of one call, in KiB", &columns);
     let (none, mut most) = (in_a_fresh_process("none"), 0);
     for (at, (name, _)) in common::deep_rows().iter().enumerate() {
         let taken = WAYS.map(|way| in_a_fresh_process(&format!("{at}:{way}")).saturating_sub(none));

@@ -9,7 +9,7 @@ mod table;
 mod timing;
 
 use common::library::Plain;
-use common::{Call, FIRST};
+use common::{chains, fillers, Call, CHAIN, FIRST};
 use std::hint::black_box;
 use table::{head, micros, row, thousands};
 use timing::{in_turns, Contender};
@@ -20,26 +20,8 @@ const RECORDS: [usize; 5] = [1000, 10_000, 100_000, 1_000_000, 4_000_000];
 // A text of so many bytes at most.
 const ROOM: usize = 1 << 20;
 
-// The modifiers of a chain; with the list and the struct that they end in, 96 indexes are open.
-const CHAIN: u32 = 94;
-
 // Entries of a list that are asked for, so that one call ends soon where an opening is dear.
 const ENTRIES: [usize; 3] = [1, 16, 4000];
-
-// Records before the ones that matter: the shortest that there are.
-fn fillers(count: usize) -> Vec<Vec<u8>> {
-    vec![common::record(0x1203, &[]); count]
-}
-
-// A chain of modifiers behind so many records, and a list with it as each entry. The text has a comma between each two.
-fn chains(records: usize, entries: usize) -> (Vec<u8>, u32) {
-    let mut all = fillers(records);
-    let first = FIRST + records as u32;
-    all.push(common::class(0x1505, b"", None, 0, false));
-    all.extend((0..CHAIN).map(|at| common::modifier(first + at, 0)));
-    all.push(common::arguments(&vec![first + CHAIN; entries]));
-    (common::stream(&all), first + CHAIN + 1)
-}
 
 // Arrays of a struct that is declared and never defined, before so many records. The text of an entry is `[]`.
 fn arrays(records: usize, entries: usize) -> (Vec<u8>, u32) {

@@ -408,6 +408,24 @@ pub fn deep_rows() -> Vec<(&'static str, Vec<u8>)> {
     ]
 }
 
+/// Records before the ones that matter: the shortest that there are.
+pub fn fillers(count: usize) -> Vec<Vec<u8>> {
+    vec![record(0x1203, &[]); count]
+}
+
+/// The modifiers of a chain; with the list and the struct that they end in, 96 indexes are open.
+pub const CHAIN: u32 = 94;
+
+/// A chain of modifiers behind so many records, and the index of a list with it as each entry. With NAME_ONLY the text is a comma between each two.
+pub fn chains(records: usize, entries: usize) -> (Vec<u8>, u32) {
+    let mut all = fillers(records);
+    let first = FIRST + records as u32;
+    all.push(class(0x1505, b"", None, 0, false));
+    all.extend((0..CHAIN).map(|at| modifier(first + at, 0)));
+    all.push(arguments(&vec![first + CHAIN; entries]));
+    (stream(&all), first + CHAIN + 1)
+}
+
 // Calls
 
 use yokberd::{Error, IdIndex, Sheet, TypeFormatter, TypeFormatterFlags, TypeIndex};
