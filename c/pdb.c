@@ -165,7 +165,7 @@ int main(int argc, char **argv) {
         return STATUS_UNREAD;
     }
     struct bytes file = read_file(argv[1]), types = read_stream(file, YOKBERD_TYPES_STREAM), ids = read_stream(file, YOKBERD_IDS_STREAM);
-    int good = print_ids(types, ids) && texts(yokberd_refusal_text, YOKBERD_UNKNOWN_COMMAND) &&
+    int good = print_ids(types, ids) && texts(yokberd_refusal_text, YOKBERD_WRONG_PLACE) &&
                texts(yokberd_container_text, YOKBERD_CONTAINER_NO_ROOM) && YOKBERD_DEFAULT_FLAGS == 0x17;
     free(file.at);
     free(types.at);
