@@ -234,7 +234,8 @@ pub fn read_stream(file: &[u8], stream: u32, out: &mut [u8]) -> Result<usize, Co
     Err(ContainerError::from_case(number, at).expect("the library refuses by the numbers of its table"))
 }
 
-/// Checks both streams, and notes in `checked` what the seven calls below go by. Gives how many numbers of it serve; where it has fewer, look-ups take longer.
+/// Checks both streams, and notes in `checked` what the calls that are lent it go by. Gives how many numbers of it serve; where it has fewer, look-ups take
+/// longer.
 pub fn check_streams(types: &[u8], ids: &[u8], stride: u32, checked: &mut [u32]) -> usize {
     // SAFETY: the pointers and lengths are those of slices that live through the call, and `checked` is lent to it alone.
     unsafe { library::yokberd_check_streams(types.as_ptr(), types.len(), ids.as_ptr(), ids.len(), stride, checked.as_mut_ptr(), checked.len()) }
