@@ -247,8 +247,8 @@ uint32_t yokberd_checked_get_type_size(const uint8_t *types, size_t types_len, c
  *
  * The four calls below it take any numbers for places, and check them. Where the plain call gives none of 1 to 4, and an entry that the stream needs is
  * lacking or is another, a call is refused by YOKBERD_WRONG_PLACE, whatever it asks for: *detail is the number of the first such entry, *text_len or *size
- * is 0, and every byte of out is 0. Entries behind those are never read. Otherwise the answer is that of the plain call, with the buffer, on all inputs. So
- * places may be kept in a file and lent again: those of other bytes are never believed.
+ * is 0, and every byte of out is 0. Entries behind the needed ones are never read. Otherwise the answer is that of the plain call, with the buffer, on all
+ * inputs. So places may be kept in a file and lent again: those of other bytes are never believed.
  *
  * Each call passes over all record heads of its streams once, as a plain one does, and compares the entries on the way; then a look-up passes over at most
  * 63 types. Of ids there are no places: they are looked up as in a plain call. For many calls in one run check the streams once, above: those calls pass
