@@ -28,7 +28,6 @@ use libc::STDERR_FILENO;
 use libc::STDOUT_FILENO;
 use streams::bounds::bounds_of;
 use streams::bounds::look_up_in;
-use streams::bounds::store;
 use streams::chains::check_stream;
 use streams::refusal::Refusal;
 use streams::refusal::StreamKind;
@@ -300,15 +299,15 @@ fn lines(s: &[u8], bounds: &[u32], places: &[u32], which: StreamKind, first: u32
     }
 }
 
-// The one stream stands for both: its places are the types' and the ids'.
+// The one stream stands for both. Its places are the types'; ids are walked to from the first.
 fn table(s: &[u8], which: StreamKind) {
-    let mut kept = [0u32; 275];
-    let a = check_stream(s, which, &mut kept[19..]);
+    let mut places = [0u32; 256];
+    let a = check_stream(s, which, &mut places);
     let c = a.check;
     match c {
         StreamCheck::Good(stream) => {
-            store(&mut kept, bounds_of(a, a, 256));
-            lines(s, &kept, &kept[19..], which, stream.first, stream.end);
+            let bounds = bounds_of(a, a, 0);
+            lines(s, &bounds, &places, which, stream.first, stream.end);
         }
         StreamCheck::Refused(f) => {
             decimal(b"refused ", f.number() as u64);
