@@ -6,7 +6,6 @@ use mathlib.Core.List.{List, []}
 use lib.Dec.{eqb, ltb}
 use lib.ListN.{length}
 use native.Mathlib.Omega.{arith}
-use borrow.Author.Tests.{le-leb}
 use Rattle.wire.specs.Field.{pick}
 use Rattle.streams.specs.Stream.{none, checked}
 use Rattle.streams.specs.Bounds.{streamIn, spacingIn, checkIn, placesIn}
@@ -25,7 +24,7 @@ use Rattle.rules.specs.Places.{Near, near, beside, tableIn}
 use Rattle.rules.specs.Task.{Task, byItself, functionOf, idOf, sizeOf}
 use Rattle.rules.specs.Call.{refusal, stopped, whole, overTypes, overIds, functionReading, idReading, typeReading, sizeReading, strictly, answer, within, functionOutcome, idOutcome, typeOutcome, sizeAnswer, sizeOutcome, ofSize}
 use Rattle.rules.specs.Placed.{functionPlaced, idPlaced, typePlaced, sizePlaced}
-use Rattle.rules.proofs.PlacedCalls.{function-right, id-right, type-right, size-right, function-wrong, id-wrong, type-wrong, size-wrong}
+use Rattle.rules.proofs.PlacedCalls.{refusal-within, function-right, id-right, type-right, size-right, function-wrong, id-wrong, type-wrong, size-wrong}
 use Rattle.rules.proofs.Tables.{table-right, table-types}
 use Rattle.context.specs.Context.{known, settingsOf, keysOf, holding}
 use Rattle.context.specs.declared.flags.Call.{Call}
@@ -83,10 +82,6 @@ answered : {t : Trace Refusal} {buf b : List ℕ} {p q : Pen} {a : Answer} → p
 answered {t} {buf} {b} {p} {q} {a} e w f =
     let v : Wrote (page buf (started (length buf))) t (page b q) = rw (← e) w in
     ap (settled b) f ∙ answer-is v
-
-refusal-within : (room : ℕ) (f : Refusal) → within room (refusal f) ≡ stopped f
-unfolding within answer
-refusal-within room f = rw (le-leb 0 room (omega arith)) refl
 
 -- A text call's answer, by what its checks came to: `k` is what is walked over the call that they give.
 module _ (k : Call → Trace Refusal) {r s : Checked} (e : s ≡ r) where

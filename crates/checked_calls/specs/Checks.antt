@@ -54,7 +54,7 @@ abbrev pub performed : Checked → (Call → Trace Refusal) → Trace Refusal
 performed (Good c) k = k c
 performed (Refused f) k = refusal f
 
--- What a call reads whose lent places are wrong from an entry on (document 02, Note 3): 17, where its checks are good.
+-- What a call reads of whose lent places an entry is wrong (document 02, Note 3): 17, where its checks are good.
 abbrev pub unplaced : Checked → ℕ → Trace Refusal
 unplaced r k = performed r (λ c. refusal (WrongPlace k))
 

@@ -19,12 +19,12 @@ use Rattle.streams.specs.declared.stream.Place.the-variants.{At, Beyond}
 use Rattle.streams.proofs.Walk.{passed-at, passed-beyond, passed-none, passed-on, passed-from}
 use Rattle.record_places.specs.declared.PlacesCheck.{PlacesCheck}
 use Rattle.record_places.specs.declared.PlacesCheck.the-variants.{Right, Wrong}
-use Rattle.record_places.specs.RecordPlaces.{placeOf, placesFrom, entriesFor, compared}
+use Rattle.record_places.specs.RecordPlaces.{recordPlace, placesFrom, entriesFor, compared}
 use Rattle.record_places.specs.Comparing.{holdsAt, FourHold, Comparing, ComparedFor}
 
 -- The place of a record that a walk comes to.
-pub place-at : (s : List ℕ) (n x : ℕ) → passed n s 56 At Beyond ≡ At x → placeOf s n ≡ x
-unfolding placeOf
+pub place-at : (s : List ℕ) (n x : ℕ) → passed n s 56 At Beyond ≡ At x → recordPlace s n ≡ x
+unfolding recordPlace
 place-at s n x h = passed-at n s 56 refl x h (λ at. at) 0
 
 module _ (s : List ℕ) where
@@ -33,13 +33,13 @@ module _ (s : List ℕ) where
   length-places zero k = refl
   length-places (suc m) k = ap suc (length-places m (suc k))
 
-  pub get-places : (m k j : ℕ) → j < m → getD (placesFrom m k s) j 0 ≡ placeOf s ((k + j) * 64)
+  pub get-places : (m k j : ℕ) → j < m → getD (placesFrom m k s) j 0 ≡ recordPlace s ((k + j) * 64)
   unfolding placesFrom
   get-places zero k j h = absurd (not-suc-le-zero h)
-  get-places (suc m) k zero h = rw (add-zero k)
+  get-places (suc m) k zero h = ap (λ (n : ℕ). recordPlace s (n * 64)) (sym (add-zero k))
   get-places (suc m) k (suc j) h =
       let e : suc k + j ≡ k + suc j = omega arith in
-      get-places m (suc k) j (omega arith) ∙ ap (λ (n : ℕ). placeOf s (n * 64)) e
+      get-places m (suc k) j (omega arith) ∙ ap (λ (n : ℕ). recordPlace s (n * 64)) e
 
 -- How many entries there are.
 pub entries-more : (n k : ℕ) → k * 64 < n → k < entriesFor n
@@ -88,17 +88,17 @@ held ps k at e = go (ltb k (length ps)) refl e
 
 -- One entry more: it is the stream's, it is lacking, or it is another.
 module _ (s ps : List ℕ) (m k : ℕ) where
-  compared-step : k < length ps → getD ps k 0 ≡ placeOf s (k * 64) → compared (placesFrom (suc m) k s) (drop k ps) k ≡ compared (placesFrom m (suc k) s) (drop (suc k) ps) (suc k)
+  compared-step : k < length ps → getD ps k 0 ≡ recordPlace s (k * 64) → compared (placesFrom (suc m) k s) (drop k ps) k ≡ compared (placesFrom m (suc k) s) (drop (suc k) ps) (suc k)
   unfolding compared placesFrom
-  compared-step h e = rw (drop-cons ps k 0 h, eq-eqb (getD ps k 0) (placeOf s (k * 64)) e)
+  compared-step h e = rw (drop-cons ps k 0 h, eq-eqb (getD ps k 0) (recordPlace s (k * 64)) e)
 
   compared-lacking : length ps ≤ k → compared (placesFrom (suc m) k s) (drop k ps) k ≡ Wrong k
   unfolding compared placesFrom
   compared-lacking h = rw (drop-of-length-le ps h)
 
-  compared-other : k < length ps → (getD ps k 0 ≡ placeOf s (k * 64) → ⊥) → compared (placesFrom (suc m) k s) (drop k ps) k ≡ Wrong k
+  compared-other : k < length ps → (getD ps k 0 ≡ recordPlace s (k * 64) → ⊥) → compared (placesFrom (suc m) k s) (drop k ps) k ≡ Wrong k
   unfolding compared placesFrom
-  compared-other h n = rw (drop-cons ps k 0 h, ne-eqb (getD ps k 0) (placeOf s (k * 64)) n)
+  compared-other h n = rw (drop-cons ps k 0 h, ne-eqb (getD ps k 0) (recordPlace s (k * 64)) n)
 
 module _ (s : List ℕ) (count : ℕ) (ps : List ℕ) where
   none-left : (k : ℕ) → compared (placesFrom 0 k s) (drop k ps) k ≡ Right
@@ -121,7 +121,7 @@ module _ (s : List ℕ) (count : ℕ) (ps : List ℕ) where
     due : 0 < left → entriesFor count - k ≡ suc (entriesFor count - (k + 1))
     due h = omega (arith, entries-more count k (omega (arith, w .number h)))
 
-    here-is : 0 < left → placeOf s (k * 64) ≡ at
+    here-is : 0 < left → recordPlace s (k * 64) ≡ at
     here-is h = place-at s (k * 64) at (w .here h)
 
     pub comparing-next : 0 < left → k < length ps → getD ps k 0 ≡ at → (part next left₁ k₁ : ℕ) → part ≡ min left 64 → left₁ ≡ left - part → k₁ ≡ k + 1

@@ -15,11 +15,11 @@ use Rattle.streams.specs.declared.stream.StreamCheck.the-variants.{Good}
 use Rattle.streams.proofs.Walk.{passed-from}
 use Rattle.streams.proofs.Handed.{passed-moved, record-moved}
 use Rattle.record_places.specs.declared.PlacesCheck.the-variants.{Right}
-use Rattle.record_places.specs.RecordPlaces.{placesOf, placesBy, lentPlaces, foundFrom, placeBefore, passedOver}
+use Rattle.record_places.specs.RecordPlaces.{placesOf, placesBy, lentPlaces, foundFrom, placeBefore, passedBetween}
 use Rattle.record_places.proofs.Laws.{compared-front}
 use Rattle.record_places.proofs.Pass.{GoodTypes, good-types, lent-entry}
 
-pub few-passed : (n : ℕ) → passedOver n ≤ 63
+pub few-passed : (n : ℕ) → passedBetween n ≤ 63
 few-passed n = omega arith
 
 module _ {A : Type 0} (s ps : List ℕ) (t : Stream) (g : checked Types s ≡ Good t) (h : lentPlaces s ps ≡ Right) (i : ℕ) (k : ℕ → ℕ → ℕ → A) (m x : A) (low : t .first ≤ i) (high : i < t .end) where
@@ -36,19 +36,19 @@ module _ {A : Type 0} (s ps : List ℕ) (t : Stream) (g : checked Types s ≡ Go
   unfolding lookFrom walkFrom
   walked = rw (lt-leb 0x8000_0000 i (omega (arith, good-types s t g .low)), le-ltb i (t .first) low, lt-leb (t .end) i high)
 
-  from-place : passed n records 56 found m ≡ passed (passedOver n) records (placeBefore ps n) found m
+  from-place : passed n records 56 found m ≡ passed (passedBetween n) records (placeBefore ps n) found m
   from-place =
       let e : n / 64 * 64 + (n - n / 64 * 64) ≡ n = omega arith in
       ap (λ (c : ℕ). passed c records 56 found m) (sym e)
       ∙ passed-from (n / 64 * 64) (n - n / 64 * 64) records 56 (placeBefore ps n) (lent-entry s ps t g h (n / 64) (omega arith) .1) found m
 
-  handed : foundFrom records (placeBefore ps n) (passedOver n) k m ≡ passed (passedOver n) records (placeBefore ps n) found m
+  handed : foundFrom records (placeBefore ps n) (passedBetween n) k m ≡ passed (passedBetween n) records (placeBefore ps n) found m
   unfolding foundFrom
   handed =
-      passed-moved records (placeBefore ps n) m (passedOver n) 0 _ found (λ y. record-moved records (placeBefore ps n) m y _ k (λ kind a b. refl))
-      ∙ ap (λ (p : ℕ). passed (passedOver n) records p found m) (add-zero (placeBefore ps n))
+      passed-moved records (placeBefore ps n) m (passedBetween n) 0 _ found (λ y. record-moved records (placeBefore ps n) m y _ k (λ kind a b. refl))
+      ∙ ap (λ (p : ℕ). passed (passedBetween n) records p found m) (add-zero (placeBefore ps n))
 
-  pub look-handed : lookUp s t i k m x ≡ foundFrom records (placeBefore ps n) (passedOver n) k m
+  pub look-handed : lookUp s t i k m x ≡ foundFrom records (placeBefore ps n) (passedBetween n) k m
   look-handed = walked ∙ from-place ∙ sym handed
 
 -- What is lent past the places of the stream changes nothing.

@@ -29,7 +29,7 @@ use Rattle.record_places.specs.declared.PlacesCheck.the-variants.{Right,
 use Rattle.record_places.specs.declared.PlacesAnswer.{PlacesAnswer}
 use Rattle.record_places.specs.declared.PlacesAnswer.the-variants as answer
 use Rattle.record_places.specs.declared.Comparison.{Comparison}
-use Rattle.record_places.specs.RecordPlaces.{placeOf, placesFrom, entriesFor, placesOf, compared, placesBy, lentPlaces, Pass, leaves, refusedPass, filledBy, passBy, fillPass}
+use Rattle.record_places.specs.RecordPlaces.{recordPlace, placesFrom, entriesFor, placesOf, compared, placesBy, lentPlaces, Pass, leaves, refusedPass, filledBy, passBy, fillPass}
 use Rattle.record_places.specs.Comparing.{ComparedFor, settledPass}
 use Rattle.record_places.proofs.Laws.{place-at, length-places, get-places, entries-more, entries-over, entries-back, compared-right}
 
@@ -37,7 +37,7 @@ use Rattle.record_places.proofs.Laws.{place-at, length-places, get-plac
 module _ (s : List ℕ) (f : Refusal) (e : checked Types s ≡ Refused f) where
   pub pass-refused : (old new : List ℕ) → length new ≡ length old → settledPass new (answer.Refused f) ≡ fillPass s old
   unfolding settledPass passBy
-  pass-refused old new z = rw (e, z)
+  pass-refused old new z = rw e (ap (λ (n : ℕ). leaves (replicate n 0) (answer.Refused f)) z)
 
   pub lent-refused : (ps : List ℕ) → Right ≡ lentPlaces s ps
   unfolding placesBy
@@ -84,9 +84,9 @@ module _ (s old new : List ℕ) (t : Stream) (g : checked Types s ≡ Good t) {r
   unfolding settledPass passBy filledBy
   pass-short n e h = rw (g, sized, lt-leb needed (length old) (omega (arith, w .sized)), e, w .sized)
 
-  entry : (i : ℕ) → i < needed → getD (placesOf t s) i 0 ≡ placeOf (take (t .stop) s) (i * 64)
+  entry : (i : ℕ) → i < needed → getD (placesOf t s) i 0 ≡ recordPlace (take (t .stop) s) (i * 64)
   unfolding placesOf
-  entry i h = get-places (take (t .stop) s) needed 0 i h ∙ ap (λ (n : ℕ). placeOf (take (t .stop) s) (n * 64)) (zero-add i)
+  entry i h = get-places (take (t .stop) s) needed 0 i h ∙ ap (λ (n : ℕ). recordPlace (take (t .stop) s) (n * 64)) (zero-add i)
 
   filled : (at : ℕ) → r ≡ At at → needed ≤ length new → new ≡ placesOf t s ++ drop needed old
   filled at h l = ext-getD 0 new (placesOf t s ++ drop needed old) (omega (arith, length-append (placesOf t s) (drop needed old), length-drop needed old, sized, w .sized)) (λ i j. go i j (ltb i needed) refl)
@@ -160,14 +160,14 @@ module _ (s ps : List ℕ) (t : Stream) (g : checked Types s ≡ Good t) (h : le
   same = rw g at h
 
   -- A walk over some of the records comes to a place.
-  reached : (n : ℕ) → n < count → passed n records 56 At Beyond ≡ At (placeOf records n)
+  reached : (n : ℕ) → n < count → passed n records 56 At Beyond ≡ At (recordPlace records n)
   unfolding tiled
   reached n l = go (passed n records 56 At Beyond) refl
     where
       whole : n + (count - n) ≡ count
       whole = omega arith
 
-      go : (p : Place) → passed n records 56 At Beyond ≡ p → passed n records 56 At Beyond ≡ At (placeOf records n)
+      go : (p : Place) → passed n records 56 At Beyond ≡ p → passed n records 56 At Beyond ≡ At (recordPlace records n)
       go (At x) e = rw (place-at records n x e) e
       go Beyond e =
           let f = ap (λ (m : ℕ). passed m records 56 (λ at. eqb at (length records)) false) (sym whole) ∙ passed-on n (count - n) records 56 (λ at. eqb at (length records)) false ∙ passed-beyond n records 56 refl e (λ at. passed (count - n) records at (λ at. eqb at (length records)) false) false in
@@ -178,7 +178,7 @@ module _ (s ps : List ℕ) (t : Stream) (g : checked Types s ≡ Good t) (h : le
   lent-entry k l =
       let i : k < entriesFor count = entries-more count k l in
       let c = compared-right (placesFrom (entriesFor count) 0 records) ps 0 same k (omega (arith, length-places records (entriesFor count) 0)) in
-      let p : getD ps k 0 ≡ placeOf records (k * 64) = c .1 ∙ get-places records (entriesFor count) 0 k i ∙ ap (λ (n : ℕ). placeOf records (n * 64)) (zero-add k) in
+      let p : getD ps k 0 ≡ recordPlace records (k * 64) = c .1 ∙ get-places records (entriesFor count) 0 k i ∙ ap (λ (n : ℕ). recordPlace records (n * 64)) (zero-add k) in
       (c .0, rw p (reached (k * 64) l))
 
   pub lent-right : (room : ℕ) → RightFor (strided 64 room) ps s t

@@ -18,13 +18,13 @@ use Rattle.record_places.specs.declared.PlacesAnswer.{PlacesAnswer}
 use Rattle.record_places.specs.declared.PlacesAnswer.the-variants as answer
 
 -- The place of a record by its number: from the first byte of the stream to its length field.
-unfoldable pub placeOf : List ℕ → ℕ → ℕ
-placeOf s n = passed n s 56 (λ at. at) 0
+unfoldable pub recordPlace : List ℕ → ℕ → ℕ
+recordPlace s n = passed n s 56 (λ at. at) 0
 
 -- So many entries, from the k-th on: "the places, from the stream's start, of type records 0, 64, 128 and on".
 unfoldable pub placesFrom : ℕ → ℕ → List ℕ → List ℕ
 placesFrom zero k s = []
-placesFrom (suc m) k s = placeOf s (k * 64) ∷ placesFrom m (suc k) s
+placesFrom (suc m) k s = recordPlace s (k * 64) ∷ placesFrom m (suc k) s
 
 -- So many records have so many of them.
 unfoldable pub entriesFor : ℕ → ℕ
@@ -59,8 +59,8 @@ foundFrom s place count found missing =
 abbrev pub placeBefore : List ℕ → ℕ → ℕ
 placeBefore ps n = getD ps (n / 64) 0
 
-abbrev pub passedOver : ℕ → ℕ
-passedOver n = n - n / 64 * 64
+abbrev pub passedBetween : ℕ → ℕ
+passedBetween n = n - n / 64 * 64
 
 -- What the pass leaves: the buffer, and how many entries are filled, or a refusal.
 pub record Pass : Type 0 where

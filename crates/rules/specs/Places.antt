@@ -17,7 +17,7 @@ tableBy l ps s t m qs d u =
       ids = λ i. idAsRead d (readIdBy m qs d u i);
     }
 
--- What a look-up goes by: the numbers that the checks found of both streams, and the places of both.
+-- What a look-up goes by: the numbers that the checks found of both streams with the places of the ids behind them, and the places of the types.
 pub record Near : Type 0 where
   pub bounds : List ℕ
   pub places : List ℕ

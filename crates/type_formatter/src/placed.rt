@@ -1,5 +1,5 @@
-// The four calls with lent places (document 02, Note 3). Each takes any buffer: one that is not that of the types is refused by 17 and the number of its first
-// entry that is lacking or another; with any other the call answers as without.
+// The four calls with lent places (document 02, Note 3). Each takes any buffer. Where one of the entries that the types need is lacking or is another, the call
+// is refused by 17 with the number of the first such entry, after 1 to 4; else it answers as the plain call does.
 ghost use mathlib.Core.Path.{_≡_};
 ghost use lib.ListN.{length};
 ghost use Rattle.rules.specs.Call.{ofSize};

@@ -1,6 +1,7 @@
 -- The definition, in numbers that fit.
 -- Assumes nothing.
 use native.Mathlib.Omega.{arith}
+use mathlib.Core.Path.{refl}
 use Rattle.record_places.specs.RecordPlaces.{entriesFor}
 use borrow.Author.Needs.{needs}
 use Rattle.record_places.proofs.entries_for.Statement.{statement}
@@ -14,7 +15,7 @@ add-result c = omega (arith, c .wide .ensures)
 
 returns : tie.Need-returns
 unfolding entriesFor
-returns c = (rw (c .wide .ensures), omega (arith, c .wide .ensures))
+returns c = (rw (c .wide .ensures) refl, omega (arith, c .wide .ensures))
 
 pub entries-for-spec : {M : Type 1} → statement M
 entries-for-spec = tie.close (tie.spec wide-requires add-result returns)
