@@ -209,7 +209,8 @@ uint32_t yokberd_get_type_size(const uint8_t *types, size_t types_len, uint32_t 
  * that is refused, makes it large. More than YOKBERD_CHECKED + 2 + (types_len + ids_len) / 4 / stride numbers are never of use.
  *
  * Over what yokberd_check_streams left in checked for the same bytes, these calls answer what the plain calls answer, and leave out as they do: a stream
- * that was refused is refused by each call. So keep checked beside the bytes, and check again where these change.
+ * that was refused is refused by each call. So keep checked beside the bytes, and check again where these change, or the library's version does: what its
+ * numbers mean may change with that. (Places, below, mean the same in every version, and each call checks them.)
  *
  * They are safe with any other numbers too. Whatever checked holds, a call ends, reads and writes nothing but what it is lent, and is accepted or refused
  * by the numbers above; an array of zeros is refused as a broken type stream is, YOKBERD_HEADER, and zeros are what the check leaves in one of

@@ -1,4 +1,5 @@
-// What the programs share: reading files up to a limit, and printing bytes. No contract can say what is read or printed.
+// What the programs share: reading files up to a limit, printing bytes and numbers, and a look at what a call left of a buffer. No contract can say what is
+// read or printed.
 ghost use Prim.Native.Nat.{min};
 ghost use mathlib.Core.Path.{_≡_};
 ghost use lib.ListN.{length};
@@ -8,6 +9,45 @@ use libc::STDOUT_FILENO;
 // Prints bytes on standard output.
 pub fn say(text: &[u8]) {
     io::write_all(STDOUT_FILENO, text);
+}
+
+// A label and a number behind it.
+pub fn decimal(label: &[u8], n: u64) {
+    say(label);
+    io::print_decimal(STDOUT_FILENO, n);
+}
+
+pub fn hex(label: &[u8], n: u32) {
+    say(label);
+    io::print_hex(STDOUT_FILENO, n as u64, 1);
+}
+
+// A buffer is lent full of this byte, so that what a call leaves alone can be seen.
+pub fn fill(out: &mut [u8]) {
+    let mut i = 0;
+    while i < out.len() {
+        out[i] = 0xaa;
+        i += 1;
+    }
+}
+
+// Whether all bytes from a place on are this one.
+pub fn all(out: &[u8], from: usize, byte: u8) -> bool {
+    let mut i = from;
+    while i < out.len() {
+        if out[i] != byte {
+            return false;
+        }
+        i += 1;
+    }
+    true
+}
+
+pub fn judge(right: bool) {
+    if right {
+        return;
+    }
+    say(b" buffer wrong");
 }
 
 // A number, or a slice's length where that is less.

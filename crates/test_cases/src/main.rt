@@ -4,10 +4,14 @@ use checked_calls::answer::Answer;
 use checked_calls::calls::SizeAnswer;
 use codeview::index::IdIndex;
 use codeview::index::TypeIndex;
+use files::all;
+use files::decimal;
+use files::fill;
+use files::hex;
+use files::judge;
 use files::say;
 use files::within;
 use libc::STDERR_FILENO;
-use libc::STDOUT_FILENO;
 use streams::refusal::Refusal;
 use wire::field::Field32;
 
@@ -18,44 +22,6 @@ struct State {
     flags: u32,
     size: u32,
     room: usize,
-}
-
-fn decimal(label: &[u8], n: u64) {
-    say(label);
-    io::print_decimal(STDOUT_FILENO, n);
-}
-
-fn hex(label: &[u8], n: u32) {
-    say(label);
-    io::print_hex(STDOUT_FILENO, n as u64, 1);
-}
-
-// A buffer is lent full of this byte, so that what a call leaves alone can be seen.
-fn fill(out: &mut [u8]) {
-    let mut i = 0;
-    while i < out.len() {
-        out[i] = 0xaa;
-        i += 1;
-    }
-}
-
-// Whether all bytes from a place on are this one.
-fn all(out: &[u8], from: usize, byte: u8) -> bool {
-    let mut i = from;
-    while i < out.len() {
-        if out[i] != byte {
-            return false;
-        }
-        i += 1;
-    }
-    true
-}
-
-fn judge(right: bool) {
-    if right {
-        return;
-    }
-    say(b" buffer wrong");
 }
 
 fn wide(b: u8) -> u32 {

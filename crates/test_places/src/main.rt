@@ -5,11 +5,15 @@ use checked_calls::answer::Answer;
 use checked_calls::calls::SizeAnswer;
 use codeview::index::IdIndex;
 use codeview::index::TypeIndex;
+use files::all;
+use files::decimal;
+use files::fill;
+use files::hex;
+use files::judge;
 use files::load_named;
 use files::say;
 use files::within;
 use leaf_writers::names::name_of;
-use libc::STDOUT_FILENO;
 use record_places::PlacesAnswer;
 use sheet::command::Command;
 use streams::refusal::Refusal;
@@ -25,16 +29,6 @@ struct State {
     size: u32,
 }
 
-fn decimal(label: &[u8], n: u64) {
-    say(label);
-    io::print_decimal(STDOUT_FILENO, n);
-}
-
-fn hex(label: &[u8], n: u32) {
-    say(label);
-    io::print_hex(STDOUT_FILENO, n as u64, 1);
-}
-
 fn wide(n: u32) -> u64 {
     n as u64
 }
@@ -43,33 +37,13 @@ fn long(n: u32) -> usize {
     n as usize
 }
 
-// Buffers are lent full of these, so that what a call leaves alone can be seen.
-fn fill(out: &mut [u8]) {
-    let mut i = 0;
-    while i < out.len() {
-        out[i] = 0xaa;
-        i += 1;
-    }
-}
-
+// The pass is lent entries full of this number.
 fn fill_entries(places: &mut [u32]) {
     let mut i = 0;
     while i < places.len() {
         places[i] = 0xaaaa_aaaa;
         i += 1;
     }
-}
-
-// Whether all bytes from a place on are this one.
-fn all(out: &[u8], from: usize, byte: u8) -> bool {
-    let mut i = from;
-    while i < out.len() {
-        if out[i] != byte {
-            return false;
-        }
-        i += 1;
-    }
-    true
 }
 
 // Whether all entries from a number on are this one.
@@ -82,13 +56,6 @@ fn all_entries(places: &[u32], from: usize, entry: u32) -> bool {
         i += 1;
     }
     true
-}
-
-fn judge(right: bool) {
-    if right {
-        return;
-    }
-    say(b" buffer wrong");
 }
 
 fn refused(f: Refusal) {

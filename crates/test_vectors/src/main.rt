@@ -4,9 +4,10 @@ use checked_calls::answer::Answer;
 use checked_calls::calls::SizeAnswer;
 use codeview::index::IdIndex;
 use codeview::index::TypeIndex;
+use files::decimal;
+use files::hex;
 use files::say;
 use libc::STDERR_FILENO;
-use libc::STDOUT_FILENO;
 use streams::chains::check_stream;
 use streams::refusal::Refusal;
 use streams::refusal::StreamKind;
@@ -18,16 +19,6 @@ enum Call {
     Type,
     Function,
     Size,
-}
-
-fn hex(label: &[u8], n: u32) {
-    say(label);
-    io::print_hex(STDOUT_FILENO, n as u64, 1);
-}
-
-fn decimal(label: &[u8], n: u64) {
-    say(label);
-    io::print_decimal(STDOUT_FILENO, n);
 }
 
 fn refused(f: Refusal) {

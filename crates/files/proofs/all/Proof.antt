@@ -4,8 +4,8 @@ use borrow.Author.Needs.{needs}
 use native.Mathlib.Omega.{arith}
 use Prim.Native.Nat.{_-_}
 use lib.ListN.{length}
-use Rattle.test_cases.proofs.all.Statement.{statement}
-use Rattle.test_cases.proofs.all.Tie as tie
+use Rattle.files.proofs.all.Statement.{statement}
+use Rattle.files.proofs.all.Tie as tie
 
 abbrev Inv-loop : tie.InvT-loop
 Inv-loop out from byte i₀ i = Unit {0}
