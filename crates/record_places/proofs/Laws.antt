@@ -20,7 +20,7 @@ use Rattle.streams.proofs.Walk.{passed-at, passed-beyond, passed-none, passed-o
 use Rattle.record_places.specs.declared.PlacesCheck.{PlacesCheck}
 use Rattle.record_places.specs.declared.PlacesCheck.the-variants.{Right, Wrong}
 use Rattle.record_places.specs.RecordPlaces.{recordPlace, placesFrom, entriesFor, compared}
-use Rattle.record_places.specs.Comparing.{holdsAt, FourHold, Comparing, ComparedFor}
+use Rattle.record_places.specs.Comparing.{holdsAt, Lead, FourLead, BlockLeads, Comparing, ComparedFor}
 
 -- The place of a record that a walk comes to.
 pub place-at : (s : List ℕ) (n x : ℕ) → passed n s 56 At Beyond ≡ At x → recordPlace s n ≡ x
@@ -116,6 +116,9 @@ module _ (s : List ℕ) (count : ℕ) (ps : List ℕ) where
         rest = let e : entriesFor count - 0 ≡ entriesFor count = omega arith in rw e;
       }
 
+  pub comparing-first : Comparing s count ps 56 (count - 0 * 64) 0
+  comparing-first = let e : count - 0 * 64 ≡ count = omega arith in rw e comparing-start
+
   module _ (at left k : ℕ) (w : Comparing s count ps at left k) where
     -- There is an entry for what is left, and it has this place where it is right.
     due : 0 < left → entriesFor count - k ≡ suc (entriesFor count - (k + 1))
@@ -176,39 +179,63 @@ module _ (s : List ℕ) (count : ℕ) (ps : List ℕ) where
         whole : part + (left - part) ≡ left
         whole = omega arith
 
-  -- Four at once.
-  pub comparing-four : (at left k : ℕ) → Comparing s count ps at left k → 256 < left → FourHold s ps k at → Comparing s count ps (getD ps (k + 4) 0) (left - 256) (k + 4)
-  comparing-four at left k w h f = fourth
-    where
-      first : Comparing s count ps (getD ps (k + 1) 0) (left - 64) (k + 1)
-      first =
-          comparing-next at left k w (omega arith) (omega (arith, f .inside)) (f .here)
-          64 (getD ps (k + 1) 0) (left - 64) (k + 1) (omega arith) (omega arith) (omega arith) (rw (f .here) at (f .first))
-
-      second : Comparing s count ps (getD ps (k + 2) 0) (left - 128) (k + 2)
-      second =
-          comparing-next (getD ps (k + 1) 0) (left - 64) (k + 1) first (omega arith) (omega (arith, f .inside)) refl
-          64 (getD ps (k + 2) 0) (left - 128) (k + 2) (omega arith) (omega arith) (omega arith) (f .second)
-
-      third : Comparing s count ps (getD ps (k + 3) 0) (left - 192) (k + 3)
-      third =
-          comparing-next (getD ps (k + 2) 0) (left - 128) (k + 2) second (omega arith) (omega (arith, f .inside)) refl
-          64 (getD ps (k + 3) 0) (left - 192) (k + 3) (omega arith) (omega arith) (omega arith) (f .third)
-
-      fourth : Comparing s count ps (getD ps (k + 4) 0) (left - 256) (k + 4)
-      fourth =
-          comparing-next (getD ps (k + 3) 0) (left - 192) (k + 3) third (omega arith) (omega (arith, f .inside)) refl
-          64 (getD ps (k + 4) 0) (left - 256) (k + 4) (omega arith) (omega arith) (omega arith) (f .fourth)
+  -- A block at once: so many entries, each of which leads to the next.
+  pub comparing-block : (at left k m : ℕ) → Comparing s count ps at left k → getD ps k 0 ≡ at → m * 64 < left → BlockLeads s ps k m → (n : ℕ) → n ≤ m → Comparing s count ps (getD ps (k + n) 0) (left - n * 64) (k + n)
+  comparing-block at left k m w e h b zero l =
+      let x : k + 0 ≡ k = omega arith in
+      let y : left - 0 * 64 ≡ left = omega arith in
+      rw (x, y, e) w
+  comparing-block at left k m w e h b (suc n) l =
+      let x : k + n + 1 ≡ k + suc n = omega arith in
+      comparing-next (getD ps (k + n) 0) (left - n * 64) (k + n) (comparing-block at left k m w e h b n (omega arith)) (omega arith) (omega (arith, b .inside)) refl
+      64 (getD ps (k + suc n) 0) (left - suc n * 64) (k + suc n) (omega arith) (omega arith) (omega arith)
+      (b .lead n (omega arith) ∙ ap (λ (i : ℕ). At (getD ps i 0)) x)
 
 -- Four entries that a walk side by side leads from one to the next.
-pub four-held : (s ps : List ℕ) (k at : ℕ) {t : Four} (a b c d e : ℕ) → a ≡ getD ps k 0 → b ≡ getD ps (k + 1) 0 → c ≡ getD ps (k + 2) 0 → d ≡ getD ps (k + 3) 0 → e ≡ getD ps (k + 4) 0
-    → k + 4 < length ps → a ≡ at → Stretched s a b c d 64 t → t .n ≡ 64 → t .a ≡ b → t .b ≡ c → t .c ≡ d → t .d ≡ e → FourHold s ps k at
-four-held s ps k at a b c d e f g h i j l m w n o p q r =
+pub four-led : (s ps : List ℕ) (k apart : ℕ) {t : Four} (a b c d : ℕ) → a ≡ getD ps k 0 → b ≡ getD ps (k + apart) 0 → c ≡ getD ps (k + 2 * apart) 0 → d ≡ getD ps (k + 3 * apart) 0
+    → k + 3 * apart + 1 < length ps → Stretched s a b c d 64 t → t .n ≡ 64 → t .a ≡ getD ps (k + 1) 0 → t .b ≡ getD ps (k + apart + 1) 0 → t .c ≡ getD ps (k + 2 * apart + 1) 0 → t .d ≡ getD ps (k + 3 * apart + 1) 0
+    → FourLead s ps k apart
+four-led s ps k apart a b c d f g h i l w n o p q r =
     record {
       inside = l;
-      here = sym f ∙ m;
-      first = rw (← f, ← g) (rw (n, o) at (w .first));
-      second = rw (← g, ← h) (rw (n, p) at (w .second));
-      third = rw (← h, ← i) (rw (n, q) at (w .third));
-      fourth = rw (← i, ← j) (rw (n, r) at (w .fourth));
+      first = rw (← f) (rw (n, o) at (w .first));
+      second = rw (← g) (rw (n, p) at (w .second));
+      third = rw (← h) (rw (n, q) at (w .third));
+      fourth = rw (← i) (rw (n, r) at (w .fourth));
     }
+
+-- The first so many of each of four parts of a block lead to the next.
+pub record Led (s ps : List ℕ) (k apart j : ℕ) : Type 0 where
+  pub inside : 0 < j → k + 3 * apart + j < length ps
+  pub each : (i : ℕ) → i < j → FourLead s ps (k + i) apart
+
+pub led-none : (s ps : List ℕ) (k apart : ℕ) → Led s ps k apart 0
+led-none s ps k apart = record { inside = λ h. absurd (omega arith); each = λ i h. absurd (omega arith) }
+
+pub led-more : (s ps : List ℕ) (k apart j : ℕ) → Led s ps k apart j → FourLead s ps (k + j) apart → Led s ps k apart (j + 1)
+led-more s ps k apart j w f = record { inside = λ h. omega (arith, f .inside); each = λ i h. go i h (ltb i j) refl }
+  where
+    go : (i : ℕ) → i < j + 1 → (b : Bool) → ltb i j ≡ b → FourLead s ps (k + i) apart
+    go i h true e = w .each i (ltb-true i j e)
+    go i h false e = let z : i ≡ j = omega (arith, ltb-false i j e) in rw z f
+
+-- All of them: each entry of the block.
+pub led-all : (s ps : List ℕ) (k apart j : ℕ) → 0 < apart → apart ≤ j → j ≤ apart → Led s ps k apart j → BlockLeads s ps k (4 * apart)
+led-all s ps k apart j h l m w = record { inside = omega (arith, w .inside (omega arith)); lead = λ i n. go i n (ltb i apart) (ltb i (2 * apart)) (ltb i (3 * apart)) refl refl refl }
+  where
+    at-place : (i n : ℕ) → i ≡ n → Lead s ps i → Lead s ps n
+    at-place i n e f = rw (← e) f
+
+    go : (i : ℕ) → i < 4 * apart → (a b c : Bool) → ltb i apart ≡ a → ltb i (2 * apart) ≡ b → ltb i (3 * apart) ≡ c → Lead s ps (k + i)
+    go i n true b c e f g = w .each i (omega (arith, ltb-true i apart e)) .first
+    go i n false true c e f g =
+        let x : apart ≤ i = ltb-false i apart e in
+        let y : i < 2 * apart = ltb-true i (2 * apart) f in
+        at-place (k + (i - apart) + apart) (k + i) (omega arith) (w .each (i - apart) (omega arith) .second)
+    go i n false false true e f g =
+        let x : 2 * apart ≤ i = ltb-false i (2 * apart) f in
+        let y : i < 3 * apart = ltb-true i (3 * apart) g in
+        at-place (k + (i - 2 * apart) + 2 * apart) (k + i) (omega arith) (w .each (i - 2 * apart) (omega arith) .third)
+    go i n false false false e f g =
+        let x : 3 * apart ≤ i = ltb-false i (3 * apart) g in
+        at-place (k + (i - 3 * apart) + 3 * apart) (k + i) (omega arith) (w .each (i - 3 * apart) (omega arith) .fourth)

@@ -18,14 +18,21 @@ use Rattle.record_places.specs.RecordPlaces.{placesFrom, entriesFor, com
 unfoldable pub holdsAt : List ℕ → ℕ → ℕ → Bool
 holdsAt ps k at = pick (ltb k (length ps)) (eqb (getD ps k 0) at) false
 
--- Entry k has a place, and from it each of four entries leads to the next in 64 records.
-pub record FourHold (s ps : List ℕ) (k at : ℕ) : Type 0 where
-  pub inside : k + 4 < length ps
-  pub here : getD ps k 0 ≡ at
-  pub first : passed 64 s (getD ps k 0) At Beyond ≡ At (getD ps (k + 1) 0)
-  pub second : passed 64 s (getD ps (k + 1) 0) At Beyond ≡ At (getD ps (k + 2) 0)
-  pub third : passed 64 s (getD ps (k + 2) 0) At Beyond ≡ At (getD ps (k + 3) 0)
-  pub fourth : passed 64 s (getD ps (k + 3) 0) At Beyond ≡ At (getD ps (k + 4) 0)
+-- An entry leads to the next in 64 records.
+abbrev pub Lead : List ℕ → List ℕ → ℕ → Type 0
+Lead s ps k = passed 64 s (getD ps k 0) At Beyond ≡ At (getD ps (k + 1) 0)
+
+-- Four entries do, so far apart; and so many that follow each other.
+pub record FourLead (s ps : List ℕ) (k apart : ℕ) : Type 0 where
+  pub inside : k + 3 * apart + 1 < length ps
+  pub first : Lead s ps k
+  pub second : Lead s ps (k + apart)
+  pub third : Lead s ps (k + 2 * apart)
+  pub fourth : Lead s ps (k + 3 * apart)
+
+pub record BlockLeads (s ps : List ℕ) (k m : ℕ) : Type 0 where
+  pub inside : k + m < length ps
+  pub lead : (i : ℕ) → i < m → Lead s ps (k + i)
 
 -- Where the walk is: `left` records are to come, from the place of record 64 k, and what the entries from k on come to, all come to.
 pub record Comparing (s : List ℕ) (count : ℕ) (ps : List ℕ) (at left k : ℕ) : Type 0 where

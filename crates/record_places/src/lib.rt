@@ -8,7 +8,7 @@ ghost use Rattle.streams.specs.declared.refusal.StreamKind.the-variants.{Types}
 ghost use Rattle.streams.specs.declared.stream.StreamCheck.the-variants.{Refused};
 ghost use Rattle.record_places.specs.declared.PlacesCheck.the-variants.{Right};
 ghost use Rattle.record_places.specs.RecordPlaces.{entriesFor, lentPlaces, leaves, fillPass};
-ghost use Rattle.record_places.specs.Comparing.{holdsAt, FourHold, Comparing, Begun, ComparedFor, settledPass};
+ghost use Rattle.record_places.specs.Comparing.{holdsAt, FourLead, BlockLeads, Comparing, Begun, ComparedFor, settledPass};
 use streams::chains::stretch;
 use streams::places::behind_noting;
 use streams::places::least;
@@ -113,56 +113,72 @@ fn holds(places: &[u32], k: u32, at: usize) -> bool
     false
 }
 
-// Whether an entry has this place and leads to the next, that to the next, and so for four: their records are walked side by side.
-fn four_hold(s: &[u8], places: &[u32], k: u32, at: usize) -> bool
-    ensures { λ r. ⌜ (r ≡ true → FourHold (now (s .entry)) (now (places .entry)) k at) ⌝ }
+// Whether each of four entries, so far apart, leads to the entry behind it: their records are walked side by side.
+fn four_lead(s: &[u8], places: &[u32], k: usize, apart: usize) -> bool
+    requires { ⌜ (k < 0x2_0000_0000) × (apart ≤ 16) ⌝ }
+    ensures { λ r. ⌜ (r ≡ true → FourLead (now (s .entry)) (now (places .entry)) k apart) ⌝ }
 {
-    let i = wide(k);
-    if places.len() <= i + 4 {
+    let fourth = k + 3 * apart;
+    if places.len() <= fourth + 1 {
         return false;
     }
     if s.len() == 0 {
         return false;
     }
-    let a = wide(places[i]);
-    let b = wide(places[i + 1]);
-    let c = wide(places[i + 2]);
-    let d = wide(places[i + 3]);
-    let e = wide(places[i + 4]);
+    let a = wide(places[k]);
+    let b = wide(places[k + apart]);
+    let c = wide(places[k + 2 * apart]);
+    let d = wide(places[fourth]);
     let last = s.len() - 1;
     let t = stretch(s, a, b, c, d, last, last, last, 64);
-    if a != at {
-        return false;
-    }
     if t.n != 64 {
         return false;
     }
-    if t.a != b {
+    if t.a != wide(places[k + 1]) {
         return false;
     }
-    if t.b != c {
+    if t.b != wide(places[k + apart + 1]) {
         return false;
     }
-    if t.c != d {
+    if t.c != wide(places[k + 2 * apart + 1]) {
         return false;
     }
-    t.d == e
+    t.d == wide(places[fourth + 1])
 }
 
-// The entries from the first on, by fours as far as they hold.
-fn by_fours(s: &[u8], count: u32, places: &[u32]) -> Known
+// Whether each entry of a block leads to the next: four times so many as they are apart.
+fn block_leads(s: &[u8], places: &[u32], k: usize, apart: usize) -> bool
+    requires { ⌜ (k < 0x1_0000_0000) × (0 < apart) × (apart ≤ 16) ⌝ }
+    ensures { λ r. ⌜ (r ≡ true → BlockLeads (now (s .entry)) (now (places .entry)) k (4 * apart)) ⌝ }
+{
+    let mut j: usize = 0;
+    while j < apart {
+        if !four_lead(s, places, k + j, apart) {
+            return false;
+        }
+        j += 1;
+    }
+    true
+}
+
+// The entries from a known one on, block by block as far as each leads to the next.
+fn by_blocks(s: &[u8], count: u32, places: &[u32], apart: u32, known: u32, from: usize) -> Known
+    requires { ⌜ (0 < apart) × (apart ≤ 16) × (known * 64 ≤ count) × Comparing (now s) count (now places) from (count - known * 64) known ⌝ }
     ensures { λ r. ⌜ Begun (now (s .entry)) count (now (places .entry)) r ⌝ }
 {
-    let mut k: u32 = 0;
-    let mut at: usize = 56;
-    let mut left = count;
-    while 256 < left {
-        if !four_hold(s, places, k, at) {
+    let mut k = known;
+    let mut at = from;
+    let mut left = count - known * 64;
+    while 256 * apart < left {
+        if !holds(places, k, at) {
             return Known { k, at };
         }
-        k += 4;
+        if !block_leads(s, places, wide(k), wide(apart)) {
+            return Known { k, at };
+        }
+        k += 4 * apart;
         at = wide(places[wide(k)]);
-        left -= 256;
+        left -= 256 * apart;
     }
     Known { k, at }
 }
@@ -208,7 +224,7 @@ fn refused(f: Refusal) -> PlacedCheck
     }
 }
 
-// The check of the types and of the places lent for them, in one pass over the heads of the records.
+// The check of the types and of the places lent for them, in one pass over the heads of the records: in large blocks, in small ones, then one by one.
 pub fn check_placed(types: &[u8], places: &[u32]) -> PlacedCheck
     ensures { λ r. ⌜ (r .check ≡ checked Types (now (types .entry))) × (r .places ≡ lentPlaces (now (types .entry)) (now (places .entry))) ⌝ }
 {
@@ -217,8 +233,10 @@ pub fn check_placed(types: &[u8], places: &[u32]) -> PlacedCheck
         return refused(Refusal::Header(types_of));
     };
     let records = &types[..stop];
-    let start = by_fours(records, end - first, places);
-    let c = compare_from(records, end - first, places, start.k, start.at);
+    let count = end - first;
+    let far = by_blocks(records, count, places, 16, 0, 56);
+    let near = by_blocks(records, count, places, 1, far.k, far.at);
+    let c = compare_from(records, count, places, near.k, near.at);
     let reached = c.end;
     let lent = c.places;
     let Place::At(at) = reached else {
