@@ -49,8 +49,8 @@ placesBy (Refused f) s ps = Right
 abbrev pub lentPlaces : List ℕ → List ℕ → PlacesCheck
 lentPlaces types ps = placesBy (checked Types types) types ps
 
--- What follows from the record behind so many others in what is handed on of a stream from a place: its kind, and where its fields lie in the whole. "With them a
--- look-up is handed the stream only from the last place at or before its record."
+-- What follows from the record behind so many others in what is handed on of a stream from a place: its kind, and where its fields lie in the whole. "With
+-- them a look-up is handed the stream only from the last place at or before its record."
 unfoldable pub foundFrom : {A : Type 0} → List ℕ → ℕ → ℕ → (ℕ → ℕ → ℕ → A) → A → A
 foundFrom s place count found missing =
     passed count (drop place s) 0 (λ at. recordAt (drop place s) at (λ kind start end. found kind (place + start) (place + end)) missing) missing
