@@ -131,11 +131,23 @@ fn shipped_streams() {
     }
 }
 
+// The most records of a stream: several blocks of those in which places are checked, but not where few cases are asked for, as under valgrind.
+fn most_records() -> usize {
+    if case_count(150) < 100 {
+        1000
+    } else {
+        10_000
+    }
+}
+
 // At the borders of 64 records and of the blocks in which places are checked, and some way behind them.
 #[test]
 fn borders() {
     let mut rng = Rng(0x32_02);
-    for types in [0, 1, 2, 62, 63, 64, 65, 66, 127, 128, 129, 191, 192, 193, 256, 257, 320, 700, 4096, 4097, 4353, 8193] {
+    for types in [0, 1, 2, 62, 63, 64, 65, 66, 127, 128, 129, 191, 192, 193, 256, 257, 320, 700, 4096, 4097, 4353, 8193]
+        .into_iter()
+        .filter(|types| *types <= most_records())
+    {
         let mut streams = random_streams_of(&mut rng, format!("{types} records"), types, 20);
         held(&mut rng, &streams);
         make_hostile(&mut rng, &mut streams);
@@ -158,7 +170,7 @@ fn random_and_damaged_streams() {
 #[test]
 fn every_wrong_entry() {
     let mut rng = Rng(0x34_04);
-    let long = random_streams_of(&mut rng, "long".into(), 4500, 20);
+    let long = random_streams_of(&mut rng, "long".into(), most_records().min(4500), 20);
     for streams in real_streams().into_iter().chain([long]) {
         let (plain, right) = (plain(&streams, 0, 8), right_places(&streams.types).unwrap());
         let some = [Call::Function(b"f", 0), Call::Type(0x74), Call::Size(FIRST), Call::Id(0), Call::Type(0x8000_0000), Call::Id(FIRST)];
