@@ -12,3 +12,4 @@ pub mod Opening
 pub mod Call
 pub mod Places
 pub mod Placed
+pub mod Measure
