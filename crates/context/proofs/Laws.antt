@@ -22,7 +22,7 @@ use Rattle.context.specs.declared.levels.Dimensions.{Dimensions}
 use Rattle.context.specs.declared.levels.PtrAttributes.{PtrAttributes}
 use Rattle.codeview.specs.declared.record.PointerMode.the-variants as mode
 use Rattle.streams.specs.declared.refusal.Refusal.the-variants.{CircularTypeDefinition, TooManyOpen}
-use Rattle.pen.specs.Page.{readPen, idle, gone, refusedPen}
+use Rattle.pen.specs.Page.{readPen, idle, gone, refusedPen, openedPen}
 use Rattle.pen.proofs.Laws.{refused-alive}
 use Rattle.pen.specs.declared.Pen.{Pen}
 use Rattle.context.specs.Context.{intersects, keyOf, keysOf, hasIndex, flagsByte, modeByte, modeAt, levelByte, levelOf, levelAt, overLevels, sizesOf, pushedDimension}
@@ -123,9 +123,9 @@ module _ (p : Pen) (list : List ℕ) (left : ℕ) (w : Way) (i : ℕ) where
       unfolding opensTo
       opens-full q f e = rw (a, b, eq-eqb left 0 f, e, refused-alive p (TooManyOpen i) a)
 
-      pub opens-in : (x : ℕ) → (left ≡ 0 → ⊥) → x ≡ wayOf w → leaves (set list (left - 1) (x * 4_294_967_296 + i)) p ≡ opensTo p list left w i
+      pub opens-in : (q : Pen) (x : ℕ) → (left ≡ 0 → ⊥) → x ≡ wayOf w → q ≡ openedPen p → leaves (set list (left - 1) (x * 4_294_967_296 + i)) q ≡ opensTo p list left w i
       unfolding opensTo
-      opens-in x f g = rw (a, b, ne-eqb left 0 f, g)
+      opens-in q x f g e = rw (a, b, ne-eqb left 0 f, g, e)
 
 -- one level of an array more, and how many more may follow
 pub pushed-left : (o : Dimensions) (x n : ℕ) → o .left ≡ suc n → pushedDimension o x .left ≡ n

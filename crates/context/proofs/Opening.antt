@@ -24,7 +24,7 @@ use Rattle.rules.specs.Record.{Record, good, bad, Table, typeContents, typeAsRe
 use Rattle.rules.specs.Task.{Task, Rule, inside, unread}
 use Rattle.rules.specs.Opening.{sameIndex, entryOf, body, rank, walked, ruled}
 use Rattle.rules.proofs.Rank.{ranked}
-use Rattle.pen.specs.Page.{Page, page, Wrote, Caught, readPen, idle, gone, unreadTrace, writing, lastSince, step, opened, stopOf, _⨾_, ending, marking}
+use Rattle.pen.specs.Page.{Page, page, Wrote, Caught, readPen, idle, gone, openedPen, unreadTrace, writing, lastSince, step, opened, stopOf, _⨾_, ending, marking}
 use Rattle.pen.specs.declared.Pen.{Pen}
 use Rattle.pen.proofs.Laws.{_▸_, wrote-by, wrote-ending, wrote-marking, wrote-length, wrote-idle, wrote-stop, wrote-opened, refused-alive}
 use Rattle.context.specs.declared.flags.Call.{Call}
@@ -60,7 +60,7 @@ module _ (c : Settings) (t : Table) (h : Held) where
 alive : (q : Pen) → idle (readPen q .stop) ≡ true → idle (readPen q .stop) ≡ false → ⊥
 alive q e f = let z : _≡_ {A = ℕ} 0 1 = cc in omega arith
 
--- What is known of an index that was opened in a list of 96: there was room, it comes right before the others, which stay, and the pen is as it was.
+-- What is known of an index that was opened in a list of 96: there was room, it comes right before the others, which stay, and the pen, which had not stopped, counts it.
 pub record In (p : Pen) (list : List ℕ) (left : ℕ) (w : Way) (i : ℕ) (l : List ℕ) (q : Pen) (n : ℕ) : Type 0 where
   pub free : hasIndex i (keysOf (drop left list)) ≡ false
   pub few : length (drop left list) < 96
@@ -68,7 +68,8 @@ pub record In (p : Pen) (list : List ℕ) (left : ℕ) (w : Way) (i : ℕ) (l : 
   pub all : length l ≡ 96
   pub first : drop n l ≡ noted w i ∷ drop left list
   pub kept : drop left l ≡ drop left list
-  pub pen : q ≡ p
+  pub goes : idle (readPen p .stop) ≡ false
+  pub pen : q ≡ openedPen p
   pub small : i < 4_294_967_296
 
 module _ {p : Pen} {list : List ℕ} {left : ℕ} {w : Way} {i : ℕ} {l : List ℕ} {q : Pen} (s : Opens p list left w i l q) (room : length list ≡ 96) (low : left ≤ 96) where
@@ -81,7 +82,7 @@ module _ {p : Pen} {list : List ℕ} {left : ℕ} {w : Way} {i : ℕ} {l : List 
           ≡ pick a (leaves list p)
           (pick b (leaves list (gone (p .limit) (CircularTypeDefinition i)))
           (pick f (leaves list (gone (p .limit) (TooManyOpen i)))
-          (leaves (set list (left - 1) (noted w i)) p)))
+          (leaves (set list (left - 1) (noted w i)) (openedPen p))))
           → In p list left w i l q (left - 1)
       by true b f v x y k =
           let same : q ≡ p = ap (λ (a : Leaves). a .pen) k in
@@ -105,6 +106,7 @@ module _ {p : Pen} {list : List ℕ} {left : ℕ} {w : Way} {i : ℕ} {l : List 
             all = ap length on ∙ length-set list (left - 1) (noted w i) ∙ room;
             first = rw on (drop-push list left (noted w i) h (omega arith));
             kept = ap (drop left) on ∙ drop-set-lt left list (left - 1) (noted w i) below;
+            goes = v;
             pen = ap (λ (a : Leaves). a .pen) k;
             small = s .small;
           }
@@ -201,7 +203,7 @@ module _ (s : List ℕ) (d : Lent) (call : Call) where
     -- It is not opened: 12, or 13, or the pen had stopped before.
     pub stopped-then : {p q : Pen} {l : List ℕ} (b : List ℕ) → Opens p list left w i l q → length list ≡ 96 → left ≤ 96 → idle (readPen q .stop) ≡ true
         → Writes left list l (page b p) walk (page b q)
-    unfolding opensTo stopOf
+    unfolding opensTo stopOf openedPen
     stopped-then {p} {q} {l} b s room low h =
         by (idle (readPen p .stop)) (hasIndex i (keysOf (drop left list))) (eqb left 0) refl refl refl (s .is)
       where
@@ -210,7 +212,7 @@ module _ (s : List ℕ) (d : Lent) (call : Call) where
             ≡ pick y (leaves list p)
             (pick z (leaves list (gone (p .limit) (CircularTypeDefinition i)))
             (pick f (leaves list (gone (p .limit) (TooManyOpen i)))
-            (leaves (set list (left - 1) (noted w i)) p)))
+            (leaves (set list (left - 1) (noted w i)) (openedPen p))))
             → Writes left list l (page b p) walk (page b q)
         by true z f a g j m =
             let same : q ≡ p = ap (λ (a : Leaves). a .pen) m in
@@ -239,7 +241,7 @@ module _ (s : List ℕ) (d : Lent) (call : Call) where
         → Writes n l m (page b q) (λ o. ruled c t (holding call o) k) g → Writes left list m (page b p) walk g
     opened-then {p} {q} {l} {m} {n} b k z e₀ v =
         record {
-          wrote = wrote-by (wrote-opened b p q (z .pen) ▸ v .wrote) (open-then (drop left list) x w i e (drop n l) k (z .free) (z .few) (z .small) (z .first) e₀);
+          wrote = wrote-by (wrote-opened b p q (z .goes) (z .pen) ▸ v .wrote) (open-then (drop left list) x w i e (drop n l) k (z .free) (z .few) (z .small) (z .first) e₀);
           kept = in-kept m z (v .kept);
         }
 

@@ -8,7 +8,7 @@ use Rattle.wire.specs.Field.{pick}
 use Rattle.streams.specs.declared.refusal.Refusal.{Refusal}
 use Rattle.streams.specs.declared.refusal.Refusal.the-variants.{CircularTypeDefinition, TooManyOpen}
 use Rattle.interpreter.specs.Trace.{Trace}
-use Rattle.pen.specs.Page.{Page, Wrote, readPen, idle, gone}
+use Rattle.pen.specs.Page.{Page, Wrote, readPen, idle, gone, openedPen}
 use Rattle.pen.specs.declared.Pen.{Pen}
 use Rattle.context.specs.Context.{keysOf, hasIndex}
 use Rattle.context.specs.declared.seen.Way.{Way}
@@ -35,13 +35,13 @@ pub record Leaves : Type 0 where
 abbrev pub leaves : List ℕ → Pen → Leaves
 leaves l q = record { list = l; pen = q }
 
--- A stopped pen opens nothing; "12 is tested before 13"; an index that is opened is written right below those that are open, and the pen is as it was.
+-- A stopped pen opens nothing; "12 is tested before 13"; an index that is opened is written right below those that are open, and the pen counts it.
 unfoldable pub opensTo : Pen → List ℕ → ℕ → Way → ℕ → Leaves
 opensTo p list left w i =
     pick (idle (readPen p .stop)) (leaves list p)
     (pick (hasIndex i (keysOf (drop left list))) (leaves list (gone (p .limit) (CircularTypeDefinition i)))
     (pick (eqb left 0) (leaves list (gone (p .limit) (TooManyOpen i)))
-    (leaves (set list (left - 1) (noted w i)) p)))
+    (leaves (set list (left - 1) (noted w i)) (openedPen p))))
 
 -- What `open_index` leaves; the index is a u32.
 pub record Opens (p : Pen) (list : List ℕ) (left : ℕ) (w : Way) (i : ℕ) (l : List ℕ) (q : Pen) : Type 0 where

@@ -89,7 +89,7 @@ fn way_number(way: Way) -> u64
     }
 }
 
-// Opens an index in a list, where those from `left` on are open: it is written right below them, and the pen is as it was. Or nothing is opened and the
+// Opens an index in a list, where those from `left` on are open: it is written right below them, and the pen counts it. Or nothing is opened and the
 // pen has stopped: with 12 where the index is open, with 13 where the list has no room for one more.
 pub fn open_index(p: Pen, seen: &mut [u64], left: usize, way: Way, index: TypeIndex) -> Pen
     requires { ⌜ left ≤ length (now seen) ⌝ }
@@ -106,5 +106,5 @@ pub fn open_index(p: Pen, seen: &mut [u64], left: usize, way: Way, index: TypeIn
     }
     let number = way_number(way);
     seen[left - 1] = number * 4_294_967_296 + (index.0 as u64);
-    p
+    pen::opened(p)
 }

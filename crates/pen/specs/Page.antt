@@ -1,5 +1,5 @@
 -- A page is a lent buffer with the pen over it, and this is what a trace makes of a page.
-use Prim.Native.Nat.{ℕ, _+_}
+use Prim.Native.Nat.{ℕ, zero, suc, _+_, _/_, _%_}
 use mathlib.Core.Path.{_≡_}
 use mathlib.Core.List.{List, [], _∷_}
 use mathlib.Core.Bool.{Bool, true, false}
@@ -18,15 +18,16 @@ use Rattle.pen.specs.declared.Stop.the-variants.{No, Missing, Refused}
 abbrev pub stopIn : ℕ → ℕ → Stop
 stopIn n d = pick (eqb n 0) No (pick (eqb n 255) (Missing d) (Refused (refusalOf n d)))
 
--- a pen, read
+-- A pen, read. Its tally is the last byte, and above it how many indexes were opened.
 pub record PenRead : Type 0 where
   pub at : ℕ
   pub last : ℕ
+  pub opened : ℕ
   pub limit : ℕ
   pub stop : Stop
 
 abbrev pub readPen : Pen → PenRead
-readPen p = record { at = p .at; last = p .last; limit = p .limit; stop = stopIn (p .stop) (p .detail) }
+readPen p = record { at = p .at; last = p .tally % 256; opened = p .tally / 256; limit = p .limit; stop = stopIn (p .stop) (p .detail) }
 
 pub record Page : Type 0 where
   pub buf : List ℕ
@@ -48,16 +49,16 @@ readPage g = under (g .buf) (readPen (g .pen))
 
 -- a pen that was refused keeps nothing but its limit
 abbrev pub ended : ℕ → Refusal → PenRead
-ended limit f = record { at = 0; last = 0; limit = limit; stop = Refused f }
+ended limit f = record { at = 0; last = 0; opened = 0; limit = limit; stop = Refused f }
 
 abbrev pub gone : ℕ → Refusal → Pen
-gone limit f = record { at = 0; last = 0; limit = limit; stop = numberOf f; detail = detailOf f }
+gone limit f = record { at = 0; tally = 0; limit = limit; stop = numberOf f; detail = detailOf f }
 
 -- one byte at a place: where the limit is reached, refusal 15. (Past the end of the buffer `set` changes nothing.)
 abbrev pub putAt : List ℕ → PenRead → ℕ → PageRead
 putAt buf p b =
     pick (ltb (p .at) (p .limit))
-    (under (set buf (p .at) b) (record { at = p .at + 1; last = b; limit = p .limit; stop = No }))
+    (under (set buf (p .at) b) (record { at = p .at + 1; last = b; opened = p .opened; limit = p .limit; stop = No }))
     (under buf (ended (p .limit) NoRoom))
 
 abbrev pub unlessStopped : {A : Type 0} → Stop → A → A → A
@@ -74,6 +75,25 @@ unfoldable pub ink : PageRead → List ℕ → PageRead
 ink g [] = g
 ink g (b ∷ bs) = ink (put g b) bs
 
+-- One index more; the count stops at the most that a pen has room for.
+abbrev pub most : ℕ
+most = 0xff_ffff_ffff_ffff
+
+abbrev pub next : ℕ → ℕ
+next n = pick (ltb n most) (n + 1) n
+
+-- An index opened, unless the pen has stopped; and as many as a trace opens.
+unfoldable pub tick : PageRead → PageRead
+tick g =
+    under (g .buf)
+    (unlessStopped (g .pen .stop)
+    (record { at = g .pen .at; last = g .pen .last; opened = next (g .pen .opened); limit = g .pen .limit; stop = No })
+    (g .pen))
+
+unfoldable pub tallied : PageRead → ℕ → PageRead
+tallied g zero = g
+tallied g (suc n) = tallied (tick g) n
+
 -- How a pen stops at each end: 12, 13 and 14 for what the walk was halted at.
 unfoldable pub stopOf : End Refusal → Stop
 stopOf done = No
@@ -86,7 +106,7 @@ stopOf unfinished = Refused NoRoom
 
 abbrev pub endAs : PenRead → Stop → PenRead
 endAs p No = p
-endAs p (Missing i) = record { at = p .at; last = p .last; limit = p .limit; stop = Missing i }
+endAs p (Missing i) = record { at = p .at; last = p .last; opened = p .opened; limit = p .limit; stop = Missing i }
 endAs p (Refused f) = ended (p .limit) f
 
 -- a pen that has not stopped ends as e says
@@ -94,7 +114,7 @@ abbrev pub finish : PageRead → Stop → PageRead
 finish g e = under (g .buf) (unlessStopped (g .pen .stop) (endAs (g .pen) e) (g .pen))
 
 unfoldable pub pageAfter : PageRead → Trace Refusal → PageRead
-pageAfter g (tr bs e ns c) = finish (ink g bs) (stopOf e)
+pageAfter g (tr bs e ns c) = finish (tallied (ink g bs) (c .opened)) (stopOf e)
 
 -- the page h is what the trace t makes of the page g
 pub record Wrote (g : Page) (t : Trace Refusal) (h : Page) : Type 0 where
@@ -113,12 +133,13 @@ lastSince p start = pick (leb (p .at) start) 0 (p .last)
 
 -- a pen that stopped goes on
 abbrev pub resumed : Pen → Pen
-resumed p = record { at = p .at; last = p .last; limit = p .limit; stop = 0; detail = 0 }
+resumed p = record { at = p .at; tally = p .tally; limit = p .limit; stop = 0; detail = 0 }
 
 -- where an index was missing, u goes on
 abbrev pub goOn : Stop → (ℕ → Trace Refusal) → PageRead → PageRead
 goOn No u g = g
-goOn (Missing i) u g = pageAfter (under (g .buf) (record { at = g .pen .at; last = g .pen .last; limit = g .pen .limit; stop = No })) (u i)
+goOn (Missing i) u g =
+    pageAfter (under (g .buf) (record { at = g .pen .at; last = g .pen .last; opened = g .pen .opened; limit = g .pen .limit; stop = No })) (u i)
 goOn (Refused f) u g = g
 
 pub record Caught (g : Page) (u : ℕ → Trace Refusal) (h : Page) : Type 0 where
@@ -160,7 +181,18 @@ refusedPen p f = unlessStopped (readPen p .stop) (gone (p .limit) f) p
 
 -- A pen that has not stopped ends its text at a missing index.
 unfoldable pub missedPen : Pen → ℕ → Pen
-missedPen p i = unlessStopped (readPen p .stop) (record { at = p .at; last = p .last; limit = p .limit; stop = 255; detail = i }) p
+missedPen p i = unlessStopped (readPen p .stop) (record { at = p .at; tally = p .tally; limit = p .limit; stop = 255; detail = i }) p
+
+-- A pen by which an index is opened. Its tally has room for the byte below the count.
+unfoldable pub nextTally : ℕ → ℕ
+nextTally n = pick (ltb n 0xffff_ffff_ffff_ff00) (n + 256) n
+
+unfoldable pub openedPen : Pen → Pen
+openedPen p = record { at = p .at; tally = nextTally (p .tally); limit = p .limit; stop = p .stop; detail = p .detail }
+
+-- A pen behind a run of bytes, of which the last is b: its tally keeps the count.
+pub record Past (p : Pen) (end b : ℕ) (q : Pen) : Type 0 where
+  pub is : readPen q ≡ record { at = end; last = b; opened = readPen p .opened; limit = p .limit; stop = No }
 
 -- What could not be read inside a type: a missing record ends the text, anything else is refused. The pen, and the trace.
 unfoldable pub unreadPen : Pen → Refusal → Pen

@@ -1,13 +1,11 @@
-// The pen: where the next byte goes, what was written last, and whether writing has stopped. A stopped pen writes nothing.
+// The pen: where the next byte goes, what was written last, how many indexes were opened, and whether writing has stopped. A stopped pen writes nothing.
 // Where the buffer is shorter than the pen's limit the bytes past its end are counted only.
 ghost use mathlib.Core.Path.{_≡_};
 ghost use mathlib.Core.List.{[]};
-ghost use Prim.Native.Nat.{_-_};
-ghost use lib.Dec.{leb};
+ghost use Prim.Native.Nat.{_-_, _/_, _%_};
 ghost use lib.ListN.{length, set};
-ghost use Rattle.wire.specs.Field.{pick};
 ghost use Rattle.interpreter.specs.Trace.{tr, refused, halted, long, count};
-ghost use Rattle.pen.specs.Page.{readPen, page, readPage, put, unlessStopped, Wrote, lastSince, resumed, refusedPen, missedPen, unreadPen, writing, idle, unreadTrace};
+ghost use Rattle.pen.specs.Page.{readPen, page, readPage, put, unlessStopped, Wrote, lastSince, resumed, refusedPen, missedPen, unreadPen, writing, idle, unreadTrace, Past, nextTally, openedPen};
 use streams::refusal::Refusal;
 use wire::bytes::copy;
 
@@ -23,8 +21,8 @@ pub const MISSING: u32 = 255;
 
 pub struct Pen {
     pub at: usize,
-    // A byte in the width of its neighbours: a struct without gaps is copied by whole words.
-    pub last: u64,
+    // The last byte, and above it how many indexes were opened, in one number: a struct of four words without gaps is copied fast.
+    pub tally: u64,
     pub limit: usize,
     // Whether it has stopped, as two numbers for the same reason: 0, the number of a refusal, or `MISSING`; then the detail.
     pub stop: u32,
@@ -68,17 +66,31 @@ fn gone(limit: usize, f: Refusal) -> Pen
 {
     Pen {
         at: 0,
-        last: 0,
+        tally: 0,
         limit,
         stop: f.number(),
         detail: f.detail(),
     }
 }
 
-fn wide(b: u8) -> u64
-    ensures { λ r. ⌜ r ≡ b ⌝ }
+// A tally with another last byte.
+fn with_last(tally: u64, b: u8) -> u64
+    ensures { λ r. ⌜ (r % 256 ≡ b) × (r / 256 ≡ tally / 256) ⌝ }
 {
-    b as u64
+    tally / 256 * 256 + (b as u64)
+}
+
+// The pen behind a run of bytes, of which the last is b.
+fn past(p: Pen, end: usize, b: u8) -> Pen
+    ensures { λ r. ⌜ Past p end b r ⌝ }
+{
+    Pen {
+        at: end,
+        tally: with_last(p.tally, b),
+        limit: p.limit,
+        stop: 0,
+        detail: 0,
+    }
 }
 
 // One byte more; 15 where there is no room for it.
@@ -92,13 +104,7 @@ pub fn byte(out: &mut [u8], p: Pen, b: u8) -> Pen
     let limit = p.limit;
     if at < limit {
         store(out, at, b);
-        return Pen {
-            at: at + 1,
-            last: wide(b),
-            limit,
-            stop: 0,
-            detail: 0,
-        };
+        return past(p, at + 1, b);
     }
     gone(limit, Refusal::NoRoom)
 }
@@ -116,41 +122,67 @@ fn text_by_byte(out: &mut [u8], p: Pen, s: &[u8]) -> Pen
     q
 }
 
-// How many bytes there is room for at once: none where the pen has stopped or its limit is past the buffer.
-fn room(p: Pen, len: usize) -> usize
-    ensures { λ r. ⌜ r ≡ unlessStopped (readPen p .stop) (pick (leb (p .limit) len) (p .limit - p .at) 0) 0 ⌝ }
+// How many bytes more a pen may write: none where it has stopped.
+fn room(p: Pen) -> usize
+    ensures { λ r. ⌜ r ≡ unlessStopped (readPen p .stop) (p .limit - p .at) 0 ⌝ }
 {
     if p.stop != 0 {
         return 0;
     }
     let at = p.at;
     let limit = p.limit;
-    if len < limit {
-        return 0;
-    }
     if limit <= at { 0 } else { limit - at }
 }
 
-// The bytes of s, at once where there is room for all of them.
+// The bytes of s, at once where all of them may be written and lie inside the buffer or all of them past its end.
 pub fn text(out: &mut [u8], p: Pen, s: &[u8]) -> Pen
     ensures { λ r. ⌜ Wrote (page (now (out .entry)) p) (writing (now (s .entry))) (page (now (out .exit)) r) ⌝ }
 {
     let n = s.len();
+    let at = p.at;
     if 0 < n {
-        if n <= room(p, out.len()) {
-            let at = p.at;
+        if n <= room(p) {
             let end = at + n;
-            copy(&mut out[at..end], s);
-            return Pen {
-                at: end,
-                last: wide(s[n - 1]),
-                limit: p.limit,
-                stop: 0,
-                detail: 0,
-            };
+            if end <= out.len() {
+                copy(&mut out[at..end], s);
+                return past(p, end, s[n - 1]);
+            }
+            if out.len() <= at {
+                return past(p, end, s[n - 1]);
+            }
         }
     }
     text_by_byte(out, p, s)
+}
+
+fn next_tally(tally: u64) -> u64
+    ensures { λ r. ⌜ r ≡ nextTally tally ⌝ }
+{
+    if tally < 0xffff_ffff_ffff_ff00 {
+        tally + 256
+    } else {
+        tally
+    }
+}
+
+// One index more was opened. The count stops where its number has no room for more.
+pub fn opened(p: Pen) -> Pen
+    ensures { λ r. ⌜ r ≡ openedPen p ⌝ }
+{
+    Pen {
+        at: p.at,
+        tally: next_tally(p.tally),
+        limit: p.limit,
+        stop: p.stop,
+        detail: p.detail,
+    }
+}
+
+// How many indexes were opened.
+pub fn openings(p: Pen) -> u64
+    ensures { λ r. ⌜ r ≡ readPen p .opened ⌝ }
+{
+    p.tally / 256
 }
 
 // A pen that has not stopped is refused.
@@ -186,7 +218,7 @@ fn missed(p: Pen, index: u32) -> Pen
     }
     Pen {
         at: p.at,
-        last: p.last,
+        tally: p.tally,
         limit: p.limit,
         stop: MISSING,
         detail: index,
@@ -218,7 +250,7 @@ pub fn last_since(p: Pen, start: usize) -> u64
     if at <= start {
         return 0;
     }
-    p.last
+    p.tally % 256
 }
 
 // A pen that stopped at a missing index goes on.
@@ -227,7 +259,7 @@ pub fn resume(p: Pen) -> Pen
 {
     Pen {
         at: p.at,
-        last: p.last,
+        tally: p.tally,
         limit: p.limit,
         stop: 0,
         detail: 0,

@@ -14,17 +14,17 @@ returns c = sym (put-halted _ _ (stop-some (c .before .before .before .args .p) 
 store-requires : tie.Need-store-requires
 store-requires c κs = search needs
 
-add-t10 : tie.Need-add-t10
-add-t10 c = search needs
+add-past : tie.Need-add-past
+add-past c = search needs
 
-wide-requires : tie.Need-wide-requires
-wide-requires c κs = search needs
+past-requires : tie.Need-past-requires
+past-requires c κs = search needs
 
 same-length : tie.Need-same-length
 same-length c = search needs
 
 returns-2 : tie.Need-returns-2
-returns-2 c = rw (c .wide .ensures) (put-stored (c .before .before .before .before .before .before .before .before .before .args .out .now) _ (c .before .before .before .before .before .before .before .before .before .args .p) (c .before .before .before .before .before .before .before .before .before .args .b) (c .before .before .before .store .ensures) (c .before .before .before .before .before .before .if1 .left) (search needs))
+returns-2 c = put-stored (c .before .before .before .before .before .before .before .before .before .args .out .now) _ (c .before .before .before .before .before .before .before .before .before .args .p) _ (c .before .before .before .before .before .before .before .before .before .args .b) (c .before .before .before .store .ensures) (c .past .ensures) (c .before .before .before .before .before .before .if1 .left) (search needs)
 
 gone-requires : tie.Need-gone-requires
 gone-requires c κs = search needs
@@ -38,8 +38,8 @@ byte-spec =
     (tie.spec
     returns
     store-requires
-    add-t10
-    wide-requires
+    add-past
+    past-requires
     same-length
     returns-2
     gone-requires

@@ -11,7 +11,7 @@ returns c = simp (le-leb _ _ (c .if1 .taken))
 
 returns-2 : tie.Need-returns-2
 unfolding lastSince
-returns-2 c = simp (lt-leb _ _ (c .if1 .left))
+returns-2 c = simp (lt-leb _ _ (c .before .if1 .left))
 
 pub last-since-spec : {M : Type 1} → statement M
 last-since-spec = tie.close (tie.spec returns returns-2)

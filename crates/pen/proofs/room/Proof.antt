@@ -2,7 +2,6 @@
 -- Assumes nothing.
 use mathlib.Core.Path.{sym}
 use borrow.Author.Needs.{needs}
-use borrow.Author.Tests.{le-leb, lt-leb}
 use native.Mathlib.Omega.{arith}
 use Rattle.pen.proofs.Laws.{stopped-keeps, stop-none}
 use Rattle.pen.proofs.room.Statement.{statement}
@@ -11,17 +10,14 @@ use Rattle.pen.proofs.room.Tie as tie
 returns : tie.Need-returns
 returns c = sym (stopped-keeps (c .before .before .args .p) _ _ (c .if1 .taken))
 
-returns-2 : tie.Need-returns-2
-returns-2 c = rw (stop-none (c .before .before .before .args .p) (c .before .if1 .left), lt-leb _ _ (c .if2 .taken))
-
 sub-result : tie.Need-sub-result
 sub-result c = search needs
 
-returns-3 : tie.Need-returns-3
-returns-3 c = rw (stop-none (c .before .before .before .before .args .p) (c .before .before .if1 .left), le-leb _ _ (c .before .if2 .left)) (omega arith)
+returns-2 : tie.Need-returns-2
+returns-2 c = rw (stop-none (c .before .before .before .args .p) (c .before .if1 .left)) (omega arith)
 
-returns-4 : tie.Need-returns-4
-returns-4 c = rw (stop-none (c .before .before .before .before .args .p) (c .before .before .if1 .left), le-leb _ _ (c .before .if2 .left)) (omega arith)
+returns-3 : tie.Need-returns-3
+returns-3 c = rw (stop-none (c .before .before .before .args .p) (c .before .if1 .left)) (omega arith)
 
 pub room-spec : {M : Type 1} → statement M
-room-spec = tie.close (tie.spec returns returns-2 sub-result returns-3 returns-4)
+room-spec = tie.close (tie.spec returns sub-result returns-2 returns-3)

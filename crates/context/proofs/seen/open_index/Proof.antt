@@ -55,11 +55,14 @@ mul-seen-2 c = search needs
 slice-write-seen : tie.Need-slice-write-seen
 slice-write-seen c = search needs
 
+opened-requires : tie.Need-opened-requires
+opened-requires c κs = search needs
+
 same-length-3 : tie.Need-same-length-3
 same-length-3 c = search needs
 
 returns-4 : tie.Need-returns-4
-returns-4 c = record { is = opens-in _ _ _ _ _ (cc) (cc) _ (c .before .before .if3 .left) (c .before .way-number .ensures .0); small = search (c .before .before .before .before .before .before .before .before .before .good .1 .1 .1 .1 .0, needs) }
+returns-4 c = record { is = opens-in _ _ _ _ _ (cc) (cc) _ _ (c .before .before .before .if3 .left) (c .before .before .way-number .ensures .0) (c .opened .ensures); small = search (c .before .before .before .before .before .before .before .before .before .before .good .1 .1 .1 .1 .0, needs) }
 
 pub open-index-spec : {M : Type 1} → statement M
 open-index-spec =
@@ -81,5 +84,6 @@ open-index-spec =
     sub-seen
     mul-seen-2
     slice-write-seen
+    opened-requires
     same-length-3
     returns-4)
