@@ -72,7 +72,7 @@ module _ (b buf : List ℕ) (o : Outcome) where
   settled-text (Refused f) e = sym (none-of f (ap (λ (r : Result). r .told) e))
 
 -- the outcome by how the pen stopped
-abbrev answered : Stop → List ℕ → ℕ → Outcome
+abbrev pub answered : Stop → List ℕ → ℕ → Outcome
 answered stop.No bs c = text bs c
 answered (stop.Missing i) bs c = stopped (refusal.Missing i)
 answered (stop.Refused f) bs c = stopped f
@@ -88,13 +88,13 @@ answer-stop (halted (long i)) bs c = refl
 answer-stop unfinished bs c = refl
 
 -- what a walk from the start has left
-record Gave (buf : List ℕ) (limit : ℕ) (t : Trace Refusal) (b : List ℕ) (q : Pen) : Type 0 where
-  bytes : List ℕ
-  many : ℕ
-  is : within limit t ≡ answered (readPen q .stop) bytes many
-  whole : readPen q .stop ≡ stop.No → Ran buf limit bytes b q
+pub record Gave (buf : List ℕ) (limit : ℕ) (t : Trace Refusal) (b : List ℕ) (q : Pen) : Type 0 where
+  pub bytes : List ℕ
+  pub many : ℕ
+  pub is : within limit t ≡ answered (readPen q .stop) bytes many
+  pub whole : readPen q .stop ≡ stop.No → Ran buf limit bytes many b q
 
-gave : (buf : List ℕ) (limit : ℕ) (t : Trace Refusal) (b : List ℕ) (q : Pen) → Wrote (page buf (started limit)) t (page b q) → Gave buf limit t b q
+pub gave : (buf : List ℕ) (limit : ℕ) (t : Trace Refusal) (b : List ℕ) (q : Pen) → Wrote (page buf (started limit)) t (page b q) → Gave buf limit t b q
 unfolding within started
 gave buf limit (tr bs e ns c) b q w = by (decLe (length bs) limit)
   where

@@ -42,7 +42,7 @@ settled b (Refused f) = left (replicate (length b) 0) (refusedBy f)
 
 -- The pen before the first byte, and the answer by where and how it stopped. Outside every type a missing record is refusal 8.
 unfoldable pub started : ℕ → Pen
-started limit = record { at = 0; last = 0; limit = limit; stop = 0; detail = 0 }
+started limit = record { at = 0; tally = 0; limit = limit; stop = 0; detail = 0 }
 
 abbrev pub answeredBy : Stop → ℕ → Answer
 answeredBy stop.No n = Text n

@@ -19,7 +19,7 @@ pub fn start(limit: usize) -> Pen
 {
     Pen {
         at: 0,
-        last: 0,
+        tally: 0,
         limit,
         stop: 0,
         detail: 0,

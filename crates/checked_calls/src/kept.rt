@@ -1,22 +1,25 @@
 // What is kept of the checks of a call's streams: the numbers that they found, and the places that they noted or that were lent.
 ghost use mathlib.Core.Path.{_≡_};
 ghost use mathlib.Core.List.{List};
-ghost use Prim.Native.Nat.{ℕ, _≤_};
-ghost use lib.ListN.{length};
+ghost use Prim.Native.Nat.{ℕ, _+_, _≤_, min};
+ghost use lib.ListN.{length, take, drop, getD};
 ghost use Rattle.streams.specs.Stream.{checked};
 ghost use Rattle.streams.specs.Places.{NotedFor};
 ghost use Rattle.streams.specs.declared.refusal.StreamKind.the-variants.{Types, Ids};
 ghost use Rattle.rules.specs.Places.{near};
 ghost use Rattle.checked_calls.specs.Kept.{KeptOf, Kept, KeptBeside, noteOf, LentKept};
 use streams::bounds::bounds_of;
+use streams::bounds::number_at;
 use streams::bounds::store;
 use streams::chains::check_stream;
 use streams::places::NotedCheck;
 use streams::places::check_with_stride;
 use streams::places::strided_by;
+use streams::places::wide;
 use streams::refusal::Refusal;
 use streams::refusal::StreamKind;
 use streams::stream::StreamCheck;
+use wire::bytes::shorter;
 
 // The ids where a call is not for an id.
 fn unchecked_ids() -> NotedCheck {
@@ -85,4 +88,26 @@ pub fn keep_lent_ids(check: StreamCheck, ids: &[u8], kept: &mut [u32])
     ensures { λ _. ⌜ ((types ps : List ℕ) → check ≡ checked Types types → LentKept types ps (now (kept .exit)) × KeptOf Ids (now (ids .entry)) (near (now (kept .exit)) ps)) ⌝ }
 {
     keep_ids(by_lent(check), ids, 0, kept);
+}
+
+// Where the places of the types start in a buffer of the caller's.
+fn split_of(checked: &[u32]) -> usize
+    ensures { λ r. ⌜ r ≡ min (19 + getD (now (checked .entry)) 18 0) (length (now (checked .entry))) ⌝ }
+{
+    shorter(19 + wide(number_at(checked, 18)), checked.len())
+}
+
+// The numbers at the start of a buffer with the places of the ids, and the places of the types behind them.
+pub fn numbers_of<'a>(checked: &'a [u32]) -> &'a [u32]
+    ensures { λ r. ⌜ now (r) ≡ take (19 + getD (now (checked .entry)) 18 0) (now (checked .entry)) ⌝ }
+{
+    let n = split_of(checked);
+    &checked[..n]
+}
+
+pub fn places_behind<'a>(checked: &'a [u32]) -> &'a [u32]
+    ensures { λ r. ⌜ now (r) ≡ drop (19 + getD (now (checked .entry)) 18 0) (now (checked .entry)) ⌝ }
+{
+    let n = split_of(checked);
+    &checked[n..]
 }

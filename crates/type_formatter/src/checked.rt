@@ -2,8 +2,8 @@
 // numbers.
 ghost use mathlib.Core.Path.{_≡_};
 ghost use mathlib.Core.List.{[]};
-ghost use Prim.Native.Nat.{_+_, _≤_, min};
-ghost use lib.ListN.{length, take, drop, getD};
+ghost use Prim.Native.Nat.{_≤_};
+ghost use lib.ListN.{length};
 ghost use Rattle.streams.specs.declared.refusal.StreamKind.the-variants.{Types, Ids};
 ghost use Rattle.rules.specs.Call.{functionOutcome, idOutcome, typeOutcome, sizeOutcome, ofSize};
 ghost use Rattle.checked_calls.specs.Answers.{given, laid};
@@ -21,12 +21,13 @@ use checked_calls::calls::size_over;
 use checked_calls::calls::type_over;
 use checked_calls::kept::check_by;
 use checked_calls::kept::keep_ids;
+use checked_calls::kept::numbers_of;
+use checked_calls::kept::places_behind;
 use codeview::index::IdIndex;
 use codeview::index::TypeIndex;
 use record_places::clear_numbers;
 use sheet::Printed;
 use sheet::print_over;
-use streams::bounds::number_at;
 use streams::places::least;
 use streams::places::wide;
 use streams::refusal::StreamKind;
@@ -91,28 +92,6 @@ pub fn check_streams(types: &[u8], ids: &[u8], stride: u32, checked: &mut [u32])
     }
     keep_in(types, ids, stride, needed, checked);
     all
-}
-
-// Where the places of the types start.
-fn split_of(checked: &[u32]) -> usize
-    ensures { λ r. ⌜ r ≡ min (19 + getD (now (checked .entry)) 18 0) (length (now (checked .entry))) ⌝ }
-{
-    shorter(19 + wide(number_at(checked, 18)), checked.len())
-}
-
-// The numbers at the start of a buffer with the places of the ids, and the places of the types behind them.
-fn numbers_of<'a>(checked: &'a [u32]) -> &'a [u32]
-    ensures { λ r. ⌜ now (r) ≡ take (19 + getD (now (checked .entry)) 18 0) (now (checked .entry)) ⌝ }
-{
-    let n = split_of(checked);
-    &checked[..n]
-}
-
-fn places_behind<'a>(checked: &'a [u32]) -> &'a [u32]
-    ensures { λ r. ⌜ now (r) ≡ drop (19 + getD (now (checked .entry)) 18 0) (now (checked .entry)) ⌝ }
-{
-    let n = split_of(checked);
-    &checked[n..]
 }
 
 // The text of a function, by its name and type.

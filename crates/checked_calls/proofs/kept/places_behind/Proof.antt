@@ -3,8 +3,8 @@
 use native.Mathlib.Omega.{arith}
 use Rattle.streams.proofs.Numbers.{drop-shorter, rest-whole}
 use borrow.Author.Needs.{needs}
-use Rattle.type_formatter.proofs.checked.places_behind.Statement.{statement}
-use Rattle.type_formatter.proofs.checked.places_behind.Tie as tie
+use Rattle.checked_calls.proofs.kept.places_behind.Statement.{statement}
+use Rattle.checked_calls.proofs.kept.places_behind.Tie as tie
 
 split-of-requires : tie.Need-split-of-requires
 split-of-requires c κs = search needs

@@ -2,8 +2,8 @@
 -- Assumes nothing.
 use native.Mathlib.Omega.{arith}
 use borrow.Author.Needs.{needs}
-use Rattle.type_formatter.proofs.checked.split_of.Statement.{statement}
-use Rattle.type_formatter.proofs.checked.split_of.Tie as tie
+use Rattle.checked_calls.proofs.kept.split_of.Statement.{statement}
+use Rattle.checked_calls.proofs.kept.split_of.Tie as tie
 
 number-at-requires : tie.Need-number-at-requires
 number-at-requires c κs = search needs

@@ -5,8 +5,8 @@ use mathlib.Core.Path.{sym}
 use lib.Seq.{length-take-le}
 use Rattle.streams.proofs.Walk.{take-shorter}
 use borrow.Author.Needs.{needs}
-use Rattle.type_formatter.proofs.checked.numbers_of.Statement.{statement}
-use Rattle.type_formatter.proofs.checked.numbers_of.Tie as tie
+use Rattle.checked_calls.proofs.kept.numbers_of.Statement.{statement}
+use Rattle.checked_calls.proofs.kept.numbers_of.Tie as tie
 
 split-of-requires : tie.Need-split-of-requires
 split-of-requires c κs = search needs
