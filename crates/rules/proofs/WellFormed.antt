@@ -19,7 +19,6 @@ use Rattle.streams.specs.declared.stream.StreamCheck.{StreamCheck}
 use Rattle.streams.specs.declared.stream.StreamCheck.the-variants.{Good, Refused}
 use Rattle.streams.specs.Stream.{none, checked}
 use Rattle.codeview.specs.Read.{readType, readId}
-use Rattle.codeview.specs.declared.record.PointerMode.{PointerMode}
 use Rattle.codeview.specs.declared.record.TypeData.{TypeData}
 use Rattle.codeview.specs.declared.record.TypeData.the-variants as type
 use Rattle.codeview.specs.declared.record.TypeRead.{TypeRead}
@@ -33,7 +32,7 @@ use Rattle.utf8.proofs.Shown.{shown-well, allAscii, well-append, well-ascii}
 use Rattle.interpreter.specs.Trace.{done, missing, refused, halted, again, deep, long, unfinished, End, Trace, tr, write, call, held, need, walk, strict}
 use Rattle.interpreter.proofs.Written.{Says, Holds, written}
 use Rattle.rules.specs.Flags.{Settings, settings, sized, flagged}
-use Rattle.rules.specs.Record.{Attributes, Method, Named, class, union, enumeration, enumerate, kindOnly, Record, pointer, modifier, procedure, method, arguments, array, primitive, named, IdRecord, function, memberFunction, strings, string, idKindOnly, Read, good, bad, Table, nameAt, shownAt, typeContents, idContents, typeAsRead, idAsRead, tableOf, byKind, pointerOr, modifierOr, procedureOr, methodOr, argumentsOr, arrayOr, primitiveOr}
+use Rattle.rules.specs.Record.{Method, Named, class, union, enumeration, enumerate, kindOnly, Record, pointer, modifier, procedure, method, arguments, array, primitive, named, IdRecord, function, memberFunction, strings, string, idKindOnly, Read, good, bad, Table, nameAt, shownAt, typeContents, idContents, typeAsRead, idAsRead, tableOf}
 use Rattle.rules.specs.Text.{Level, endsSigned}
 use Rattle.rules.specs.Task.{Task, byItself, functionOf, target, targetOfModifier, modified, listOf, element, sizeOf, idOf, functionId, memberId, Rule, unless, texted, unread, marked, inside, separated}
 use Rattle.rules.specs.Types.{result, procedureResult, returned, methodArguments, procedureArguments, comma, namedText, typeText, alone}
@@ -43,6 +42,7 @@ use Rattle.rules.specs.Arrays.{baseText, elementText}
 use Rattle.rules.specs.Ids.{functionText, scopeText, functionIdText, memberIdText, idText, idAlone}
 use Rattle.rules.specs.Opening.{sameIndex, entryOf, body, rank, walked}
 use Rattle.rules.specs.Call.{text, stopped, answer, within, refusal, whole, overTypes, overIds, functionReading, idReading, typeReading, strictly, functionOutcome, idOutcome, typeOutcome}
+use Rattle.rules.proofs.ByKind.{either, pointer-or, modifier-or, procedure-or, method-or, arguments-or, array-or, primitive-or}
 use Rattle.rules.proofs.WellTexts.{missing-well, unimplemented-well, unhandled-type-well, unhandled-scope-well, function-name-well, string-well, class-well, union-well, enum-well, enumerate-well, primitive-well, levels-well, brackets-well}
 
 -- Records, readings, tables and tasks whose names are well-formed. A size step writes a number that is not shown; it is only asked for.
@@ -100,21 +100,17 @@ _and_ : {A B : Type 0} → A → B → A × B
 a and b = (a, b)
 
 -- The parts that rules are made of.
-says-pick : (b : Bool) (p q : Rule) → S p → S q → S (pick b p q)
-says-pick true p q h k = h
-says-pick false p q h k = k
-
 says-unless : (b : Bool) (p : Rule) → S p → S (unless b p)
 unfolding Says
-says-unless b p h = says-pick b (write []) p empty h
+says-unless b p h = either S b (write []) p empty h
 
 says-unread : (f : Refusal) → S (unread f)
 unfolding Says unread
-says-unread f = says-pick (eqb (numberOf f) 8) _ _ tt tt
+says-unread f = either S (eqb (numberOf f) 8) _ _ tt tt
 
 says-marked : (f : Refusal) → S (marked f)
 unfolding Says marked
-says-marked f = says-pick (eqb (numberOf f) 8) _ _ (missing-well (detailOf f)) (says-pick (eqb (numberOf f) 7) _ _ (unimplemented-well (detailOf f)) tt)
+says-marked f = either S (eqb (numberOf f) 8) _ _ (missing-well (detailOf f)) (either S (eqb (numberOf f) 7) _ _ (unimplemented-well (detailOf f)) tt)
 
 says-texted : (p : Rule) → S p → S (texted p)
 unfolding Says
@@ -137,41 +133,6 @@ says-separated sep b (a ∷ al) w = says-pick₀ b and tt and says-separated sep
 picked : (b : Bool) (a : List ℕ) → allAscii a ≡ true → WellFormed (pick b a [])
 picked true a h = well-ascii a h
 picked false a h = empty
-
--- By the kind of a record: what follows from each says so.
-by-kind : (r : Record) (f : ℕ → PointerMode → Attributes → ℕ → Rule) (g : ℕ → Attributes → Rule) (h : ℕ → Bool → ℕ → Rule) (i : Method → Rule) (j : List ℕ → Rule)
-    (k l : ℕ → ℕ → Rule) (n : Named → Rule) → ((u : ℕ) (m : PointerMode) (a : Attributes) (z : ℕ) → S (f u m a z)) → ((u : ℕ) (a : Attributes) → S (g u a))
-    → ((u : ℕ) (b : Bool) (v : ℕ) → S (h u b v)) → ((m : Method) → S (i m)) → ((v : List ℕ) → S (j v)) → ((e z : ℕ) → S (k e z)) → ((c z : ℕ) → S (l c z))
-    → ((x : Named) → S (n x)) → S (byKind r f g h i j k l n)
-by-kind (pointer u m a z) f g h i j k₀ l₀ n₀ p q s t v w x y = p u m a z
-by-kind (modifier u a) f g h i j k₀ l₀ n₀ p q s t v w x y = q u a
-by-kind (procedure u b l) f g h i j k₀ l₀ n₀ p q s t v w x y = s u b l
-by-kind (method m) f g h i j k₀ l₀ n₀ p q s t v w x y = t m
-by-kind (arguments l) f g h i j k₀ l₀ n₀ p q s t v w x y = v l
-by-kind (array e z) f g h i j k₀ l₀ n₀ p q s t v w x y = w e z
-by-kind (primitive c z) f g h i j k₀ l₀ n₀ p q s t v w x y = x c z
-by-kind (named n) f g h i j k₀ l₀ n₀ p q s t v w x y = y n
-
-pointer-or : (r : Record) (f : ℕ → PointerMode → Attributes → ℕ → Rule) (z : Rule) → ((u : ℕ) (m : PointerMode) (a : Attributes) (n : ℕ) → S (f u m a n)) → S z → S (pointerOr r f z)
-pointer-or r f z h k = by-kind r _ _ _ _ _ _ _ _ h (λ u a. k) (λ u b l. k) (λ m. k) (λ l. k) (λ e n. k) (λ c n. k) (λ x. k)
-
-modifier-or : (r : Record) (f : ℕ → Attributes → Rule) (z : Rule) → ((u : ℕ) (a : Attributes) → S (f u a)) → S z → S (modifierOr r f z)
-modifier-or r f z h k = by-kind r _ _ _ _ _ _ _ _ (λ u m a n. k) h (λ u b l. k) (λ m. k) (λ l. k) (λ e n. k) (λ c n. k) (λ x. k)
-
-procedure-or : (r : Record) (f : ℕ → Bool → ℕ → Rule) (z : Rule) → ((u : ℕ) (b : Bool) (l : ℕ) → S (f u b l)) → S z → S (procedureOr r f z)
-procedure-or r f z h k = by-kind r _ _ _ _ _ _ _ _ (λ u m a n. k) (λ u a. k) h (λ m. k) (λ l. k) (λ e n. k) (λ c n. k) (λ x. k)
-
-method-or : (r : Record) (f : Method → Rule) (z : Rule) → ((m : Method) → S (f m)) → S z → S (methodOr r f z)
-method-or r f z h k = by-kind r _ _ _ _ _ _ _ _ (λ u m a n. k) (λ u a. k) (λ u b l. k) h (λ l. k) (λ e n. k) (λ c n. k) (λ x. k)
-
-arguments-or : (r : Record) (f : List ℕ → Rule) (z : Rule) → ((l : List ℕ) → S (f l)) → S z → S (argumentsOr r f z)
-arguments-or r f z h k = by-kind r _ _ _ _ _ _ _ _ (λ u m a n. k) (λ u a. k) (λ u b l. k) (λ m. k) h (λ e n. k) (λ c n. k) (λ x. k)
-
-array-or : (r : Record) (f : ℕ → ℕ → Rule) (z : Rule) → ((e n : ℕ) → S (f e n)) → S z → S (arrayOr r f z)
-array-or r f z h k = by-kind r _ _ _ _ _ _ _ _ (λ u m a n. k) (λ u a. k) (λ u b l. k) (λ m. k) (λ l. k) h (λ c n. k) (λ x. k)
-
-primitive-or : (r : Record) (f : ℕ → ℕ → Rule) (z : Rule) → ((c n : ℕ) → S (f c n)) → S z → S (primitiveOr r f z)
-primitive-or r f z h k = by-kind r _ _ _ _ _ _ _ _ (λ u m a n. k) (λ u a. k) (λ u b l. k) (λ m. k) (λ l. k) (λ e n. k) h (λ x. k)
 
 -- The rules.
 module _ (c : Settings) where
@@ -230,31 +191,31 @@ module _ (c : Settings) where
   says-pointed : (ls : List Level) (r : Record) → RecordWell r → S (pointed c ls r)
   unfolding Says TaskWell pointed allAscii
   says-pointed ls r w =
-      method-or r _ _
+      method-or S r _ _
       (λ m. says-result (m .constructor) (m .result) and well-ascii (bytes "(") refl and tt and levels-well c false false ls and well-ascii (bytes ")") refl and says-method-arguments m false)
-      (procedure-or r _ _
+      (procedure-or S r _ _
       (λ u b l. says-procedure-result b u and well-ascii (bytes "(") refl and levels-well c false false ls and well-ascii (bytes ")") refl and well-ascii (bytes "(") refl and tt and well-ascii (bytes ")") refl)
       (says-texted (typeText c r) (says-type r w), λ bs. levels-well c true (endsSigned bs) ls))
 
   says-aimed : (ls : List Level) (r : Record) → RecordWell r → S (aimed c ls r)
   unfolding Says TaskWell aimed
-  says-aimed ls r w = pointer-or r _ _ (λ u m a n. tt) (modifier-or r _ _ (λ u a. tt) (says-pointed ls r w))
+  says-aimed ls r w = pointer-or S r _ _ (λ u m a n. tt) (modifier-or S r _ _ (λ u a. tt) (says-pointed ls r w))
 
   says-aimed-again : (ls : List Level) (r : Record) → RecordWell r → S (aimedAgain c ls r)
   unfolding Says TaskWell aimedAgain
-  says-aimed-again ls r w = pointer-or r _ _ (λ u m a n. tt) (says-pointed ls r w)
+  says-aimed-again ls r w = pointer-or S r _ _ (λ u m a n. tt) (says-pointed ls r w)
 
   says-modified : (b : Bool) (r : Record) → RecordWell r → S (modifiedText c b r)
   unfolding Says TaskWell modifiedText allAscii
   says-modified b r w =
-      pointer-or r _ _ (λ u m a n. tt)
-      (primitive-or r _ _ (λ k n. primitive-well c b k n) (picked b (bytes "const ") refl, says-texted (typeText c r) (says-type r w)))
+      pointer-or S r _ _ (λ u m a n. tt)
+      (primitive-or S r _ _ (λ k n. primitive-well c b k n) (picked b (bytes "const ") refl, says-texted (typeText c r) (says-type r w)))
 
   says-method-text : (m : Method) (closes : Bool) (l : List ℕ) (extra constant : Bool) → S (methodText c m closes l extra constant)
   unfolding Says TaskWell methodText allAscii
   says-method-text m closes l extra constant =
       well-ascii (bytes "(") refl
-      and says-pick extra _ _ tt empty
+      and either S extra _ _ tt empty
       and says-separated (comma c) extra l comma-well
       and well-ascii (bytes ")") refl
       and picked (closes && constant) (bytes " const") refl
@@ -274,7 +235,7 @@ module _ (c : Settings) where
 
   says-function : (name : List ℕ) (r : Record) → WellFormed name → S (functionText c name r)
   unfolding Says functionText
-  says-function name r w = method-or r _ _ (λ m. says-named-method m (write []) name empty w) (procedure-or r _ _ (λ u b l. says-named-procedure u b l (write []) name empty w) w)
+  says-function name r w = method-or S r _ _ (λ m. says-named-method m (write []) name empty w) (procedure-or S r _ _ (λ u b l. says-named-procedure u b l (write []) name empty w) w)
 
   says-scope : (i : ℕ) → S (scopeText c i)
   unfolding Says TaskWell scopeText allAscii
@@ -282,11 +243,11 @@ module _ (c : Settings) where
 
   says-function-id : (scope u : ℕ) (name : List ℕ) (r : Record) → WellFormed name → S (functionIdText c scope u name r)
   unfolding Says functionIdText
-  says-function-id scope u name r w = procedure-or r _ _ (λ v b l. says-named-procedure v b l (scopeText c scope) name (says-scope scope) w) tt
+  says-function-id scope u name r w = procedure-or S r _ _ (λ v b l. says-named-procedure v b l (scopeText c scope) name (says-scope scope) w) tt
 
   says-member-id : (parent u : ℕ) (name : List ℕ) (r : Record) → WellFormed name → S (memberIdText c parent u name r)
   unfolding Says TaskWell memberIdText allAscii
-  says-member-id parent u name r w = method-or r _ _ (λ m. says-named-method m _ name (tt, well-ascii (bytes "::") refl) w) tt
+  says-member-id parent u name r w = method-or S r _ _ (λ m. says-named-method m _ name (tt, well-ascii (bytes "::") refl) w) tt
 
   says-id : (r : Read IdRecord) → ReadWell IdWell r → S (idAlone c r)
   unfolding Says TaskWell ReadWell IdWell idAlone idText allAscii
@@ -301,21 +262,21 @@ module _ (c : Settings) where
     says-this : (m : Method) (k : Bool → Bool → Rule) → ((e x : Bool) → S (k e x)) → S (thisPointer c t m k)
     unfolding thisPointer
     says-this m k h =
-        says-pick (eqb (m .this) 0) (k false false) _ (h false false)
+        either S (eqb (m .this) 0) (k false false) _ (h false false)
         (says-inside RecordWell (t .types (m .this)) _ (w .types (m .this))
-        (λ r v. pointer-or r _ _
-        (λ u n a z. says-pick (eqb u (m .class)) (k false false) _ (h false false)
+        (λ r v. pointer-or S r _ _
+        (λ u n a z. either S (eqb u (m .class)) (k false false) _ (h false false)
         (says-inside RecordWell (t .types u) _ (w .types u)
-        (λ q v. modifier-or q _ _ (λ x b. says-pick (eqb x (m .class)) _ _ (h false (b .constant)) (h true false)) (h true false))))
+        (λ q v. modifier-or S q _ _ (λ x b. either S (eqb x (m .class)) _ _ (h false (b .constant)) (h true false)) (h true false))))
         (h true false)))
 
     says-list : (m : Method) (closes : Bool) (r : Record) → S (methodList c t m closes r)
     unfolding Says methodList
-    says-list m closes r = arguments-or r _ _ (λ l. says-this m _ (λ e x. says-method-text m closes l e x)) tt
+    says-list m closes r = arguments-or S r _ _ (λ l. says-this m _ (λ e x. says-method-text m closes l e x)) tt
 
     says-element : (i : ℕ) (zs : List ℕ) (r : Record) → RecordWell r → S (elementText c t i zs r)
     unfolding Says TaskWell elementText baseText
-    says-element i zs r v = array-or r _ _ (λ e n. tt) (λ bs. (says-texted (typeText c r) (says-type r v), brackets-well _ zs))
+    says-element i zs r v = array-or S r _ _ (λ e n. tt) (λ bs. (says-texted (typeText c r) (says-type r v), brackets-well _ zs))
 
     says-body : (x : Task) → TaskWell x → S (body c t x)
     unfolding Says TaskWell body
