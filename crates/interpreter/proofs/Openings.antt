@@ -3,7 +3,7 @@
 use Prim.Native.Nat.{ℕ, zero, suc, _+_, _*_, _-_, _≤_}
 use mathlib.Core.Path.{_≡_, refl}
 use mathlib.Core.Bool.{Bool, true, false, not}
-use mathlib.Core.List.{List, [], _∷_, _++_}
+use mathlib.Core.List.{List, [], _∷_}
 use lib.Dec.{T, leb, nleb→lt}
 use lib.ListN.{length, length-append}
 use native.Mathlib.Omega.{arith}
@@ -55,6 +55,10 @@ use Rattle.interpreter.specs.Trace.{
 -- How many openings are left where h is held: each lowers it, and so does each fresh list. At most 3,200.
 unfoldable pub left : Held → ℕ
 left h = (32 - h .chain) * 97 + (96 - length (h .opened))
+
+low : (h : Held) → left h ≤ 3_200
+unfolding left
+low h = omega arith
 
 module _ {R : Type 0} where
   -- What is to spare after a trace: b where all was written, else nothing is asked.
@@ -196,13 +200,13 @@ module _ {R : Type 0} where
           paid-limited (left h) 0 (leb 32 (h .chain)) (long i) _
           (λ l. paid-more (left (held (suc (h .chain)) [])) (left h) 0 (f (held (suc (h .chain)) [])) (omega (arith, nleb→lt 32 (h .chain) l)) (g (held (suc (h .chain)) [])))
 
-      module _ (entryOf : Task → Entry) (body : Task → Prog R Task) (spaced : Spaced entryOf body) where
-        quiet-opening : (e : Entry) (h : Held) (f : Held → Trace R) → e ≡ through → Quiet (f h) → Quiet (opening same strict e h f)
-        unfolding opening
-        quiet-opening through h f e g = g
-        quiet-opening (opens j) h f e g = absurd (let z : _≡_ {A = ℕ} 0 1 = cc in omega arith)
-        quiet-opening (afresh i) h f e g = absurd (let z : _≡_ {A = ℕ} 0 1 = cc in omega arith)
+      quiet-opening : (e : Entry) (h : Held) (f : Held → Trace R) → e ≡ through → Quiet (f h) → Quiet (opening same strict e h f)
+      unfolding opening
+      quiet-opening through h f e g = g
+      quiet-opening (opens j) h f e g = absurd (let z : _≡_ {A = ℕ} 0 1 = cc in omega arith)
+      quiet-opening (afresh i) h f e g = absurd (let z : _≡_ {A = ℕ} 0 1 = cc in omega arith)
 
+      module _ (entryOf : Task → Entry) (body : Task → Prog R Task) (spaced : Spaced entryOf body) where
         quiet-run : (n : ℕ) (h : Held) (t : Task) → Silent t → Quiet (run same entryOf body strict n h t)
         unfolding run
         quiet-run zero h t s = refl
@@ -211,11 +215,7 @@ module _ {R : Type 0} where
             (quiet-opening (entryOf t) h (λ q. exec strict (λ u. run same entryOf body strict n q u) (body t)) (spaced .unopened t s)
             (hushed-exec (λ u. run same entryOf body strict n h u) (λ u v. quiet-run n h u v) (body t) (spaced .hushed t s)))
 
-        low : (h : Held) → left h ≤ 3_200
-        unfolding left
-        low h = omega arith
-
-        pub paid-run : (n : ℕ) (h : Held) (t : Task) → Paid (left h) 0 (run same entryOf body strict n h t)
+        paid-run : (n : ℕ) (h : Held) (t : Task) → Paid (left h) 0 (run same entryOf body strict n h t)
         unfolding run
         paid-run zero h t = omega arith
         paid-run (suc n) h t =

@@ -92,13 +92,13 @@ module _ (flags size : ℕ) (types : List ℕ) where
       (tied-refusal (refusal₀.UnknownFlags flags))
 
 -- What a text answer says of the trace, and the other way round.
-record IsText (room : ℕ) (bs : List ℕ) (n : ℕ) (s : Trace Refusal) : Type 0 where
-  notes : List Note
-  steps : ℕ
-  is : s ≡ tr bs done notes (count n steps)
-  fits : length bs ≤ room
+pub record IsText (room : ℕ) (bs : List ℕ) (n : ℕ) (s : Trace Refusal) : Type 0 where
+  pub notes : List Note
+  pub steps : ℕ
+  pub is : s ≡ tr bs done notes (count n steps)
+  pub fits : length bs ≤ room
 
-is-text : (room : ℕ) (bs : List ℕ) (n : ℕ) (s : Trace Refusal) → within room s ≡ text bs n → IsText room bs n s
+pub is-text : (room : ℕ) (bs : List ℕ) (n : ℕ) (s : Trace Refusal) → within room s ≡ text bs n → IsText room bs n s
 unfolding within answer
 is-text room bs n (tr cs e ns k) p = go (leb (length cs) room) e refl p
   where
@@ -123,7 +123,7 @@ is-text room bs n (tr cs e ns k) p = go (leb (length cs) room) e refl p
     go true (halted (long i)) l p = no-text p
     go true unfinished l p = no-text p
 
-text-is : (room : ℕ) (bs : List ℕ) (ns : List Note) (k : Count) → length bs ≤ room → within room (tr bs done ns k) ≡ text bs (k .opened)
+pub text-is : (room : ℕ) (bs : List ℕ) (ns : List Note) (k : Count) → length bs ≤ room → within room (tr bs done ns k) ≡ text bs (k .opened)
 unfolding within answer
 text-is room bs ns k h = go (leb (length bs) room) (le→leb (length bs) room h)
   where

@@ -3,13 +3,13 @@
 use Prim.Native.Nat.{ℕ, zero, suc, _+_, _*_, _≤_}
 use native.Mathlib.Omega.{arith}
 use mathlib.Core.Path.{_≡_, refl}
-use mathlib.Core.Bool.{Bool, true, false, _&&_, _||_, not}
+use mathlib.Core.Bool.{Bool, true, false, _||_}
 use mathlib.Core.List.{List, [], _∷_}
 use lib.Dec.{eqb, ltb}
 use lib.ListN.{length}
 use Rattle.wire.specs.Field.{pick}
 use Rattle.wire.specs.Text.{bytes}
-use Rattle.streams.specs.Refusal.{numberOf, detailOf}
+use Rattle.streams.specs.Refusal.{numberOf}
 use Rattle.streams.specs.Stream.{none, checked}
 use Rattle.streams.specs.declared.refusal.Refusal.{Refusal}
 use Rattle.streams.specs.declared.refusal.StreamKind.the-variants.{Types, Ids}
