@@ -19,7 +19,7 @@ use Rattle.streams.specs.declared.stream.StreamCheck.the-variants.{Good, Refuse
 use Rattle.record_places.specs.RecordPlaces.{lentPlaces}
 use Rattle.record_places.specs.declared.PlacesCheck.{PlacesCheck}
 use Rattle.record_places.specs.declared.PlacesCheck.the-variants.{Right, Wrong}
-use Rattle.interpreter.specs.Trace.{Trace, tr, write, through, held, walk}
+use Rattle.interpreter.specs.Trace.{Trace, tr, write, through, Held, held, walk}
 use Rattle.interpreter.proofs.Openings.{left, Paid, Hushed, Pays, pays-hushed, Spaced, paid-walk}
 use Rattle.rules.specs.Flags.{Settings, settings, sized, flagged}
 use Rattle.rules.specs.Record.{Method, Named, class, union, enumeration, enumerate, kindOnly, Record, pointer, modifier, procedure, method, arguments, array, primitive, named, IdRecord, function, memberFunction, strings, string, idKindOnly, Read, good, bad, Table, tableOf}
@@ -261,12 +261,16 @@ spaced c t = record { unopened = λ x s. unopened s; hushed = λ x s. hushed s; 
 abbrev pub Few : Trace Refusal → Type 0
 Few (tr bs e ns c) = c .opened ≤ 3_200 * (length bs + 1)
 
-paid-few : (t : Trace Refusal) → Paid 3_200 0 t → Few t
-paid-few (tr bs e ns c) h = omega arith
+paid-few : (k : ℕ) → k ≤ 3_200 → (t : Trace Refusal) → Paid k 0 t → Few t
+paid-few k l (tr bs e ns c) h = omega arith
 
-pub few-walk : (c : Settings) (t : Table) (x : Task) → Few (walked c t (held 0 []) x)
+pub few-walk : (c : Settings) (t : Table) (h : Held) (x : Task) → Few (walked c t h x)
 unfolding left walked
-few-walk c t x = paid-few (walk sameIndex (entryOf c t) (body c t) rank (held 0 []) x) (paid-walk Silent sameIndex (entryOf c t) (body c t) (spaced c t) rank (held 0 []) x)
+few-walk c t h x =
+    paid-few (left h) (omega arith) (walk sameIndex (entryOf c t) (body c t) rank h x) (paid-walk Silent sameIndex (entryOf c t) (body c t) (spaced c t) rank h x)
+
+few-strictly : (c : Settings) (t : Table) (x : Task) → Few (strictly c t x)
+few-strictly c t x = few-walk c t (held 0 []) x
 
 -- The readings of the calls, however a task is read: their checks, their streams.
 few-pick : (b : Bool) (t u : Trace Refusal) → Few t → Few u → Few (pick b t u)
@@ -301,21 +305,21 @@ unfolding withPlaces byPlaces
 few-placed types ps c t x = by (lentPlaces types ps)
   where
     by : (p : PlacesCheck) → Few (byPlaces p (strictly c t x))
-    by Right = few-walk c t x
+    by Right = few-strictly c t x
     by (Wrong k) = omega arith
 
 module _ (flags size : ℕ) (types : List ℕ) where
   pub few-function : (name : List ℕ) (index : ℕ) → Few (functionReading strictly flags size types name index)
   unfolding functionReading
-  few-function name index = few-types strictly few-walk flags size types (functionOf index name)
+  few-function name index = few-types strictly few-strictly flags size types (functionOf index name)
 
   pub few-id : (ids : List ℕ) (index : ℕ) → Few (idReading strictly flags size types ids index)
   unfolding idReading
-  few-id ids index = few-ids strictly few-walk flags size types ids (idOf index)
+  few-id ids index = few-ids strictly few-strictly flags size types ids (idOf index)
 
   pub few-type : (index : ℕ) → Few (typeReading strictly flags size types index)
   unfolding typeReading
-  few-type index = few-types strictly few-walk flags size types (byItself index)
+  few-type index = few-types strictly few-strictly flags size types (byItself index)
 
   pub few-function-placed : (ps name : List ℕ) (index : ℕ) → Few (functionReading (withPlaces types ps strictly) flags size types name index)
   unfolding functionReading
