@@ -1,15 +1,17 @@
 #!/usr/bin/env python3
-"""A reading of documents 01 and 02 in plain Python: streams, records, the four calls, refusals, flags and sizes.
+"""A reading of documents 01 and 02 in plain Python: streams, records, the four calls, refusals, flags, sizes and measures.
 
     reading.py sheet DIR          prints the lines of `names` for types.bin, ids.bin and sheet.bin in DIR
     reading.py sheets DIR...      compares those lines with DIR/expected.txt, or with expected-after-NN.txt where Note NN changed them, for each DIR
     reading.py places DIR...      compares the lines of DIR's sheet, whose calls take the places of DIR/places.bin, with those, and the pass that fills
                                   places, over buffers of the lengths that DIR/pass.txt has, with that file
+    reading.py measures DIR...    compares the measures of DIR's text commands with DIR/expected.txt; a DIR/places.bin, where there is one, is lent to
+                                  each call
     reading.py vectors CRATE      prints what `test_vectors` must print, from the files args and data/*.bin of its folder CRATE
     reading.py ids TYPES IDS      prints each id of a pair of streams with its text under flags 0
 
 It was made from the documents and from the texts of the Rust module that they name; where they leave a choice, it takes that of docs/READINGS.md. Of
-document 02 it has Notes 1 to 3. Nothing of the Rattle code or its definitions is used. Expected outputs are made by it, so it is kept simple rather than fast."""
+document 02 it has Notes 1 to 4. Nothing of the Rattle code or its definitions is used. Expected outputs are made by it, so it is kept simple rather than fast."""
 import functools
 import os
 import sys
@@ -20,7 +22,8 @@ NO_FUNCTION_RETURN, NO_MEMBER_FUNCTION_STATIC, SPACE_AFTER_COMMA, SPACE_BEFORE_P
 ALL_FLAGS = 63
 OPEN_LIMIT, CHAIN_LIMIT = 96, 32
 PLACE_STEP = 64                                    # of type records 0, 64, 128 and on a place is kept
-NOTES = 3                                          # so many Notes of document 02 are here
+MEASURED = 16777215                                # a measure is refused as the text is with a buffer of so many bytes
+NOTES = 4                                          # so many Notes of document 02 are here
 
 # code: name and byte size, by cvinfo.h and the Rust module
 PRIMITIVES = {
@@ -134,13 +137,15 @@ def part(name):
     return next(((n, True) for n in lengths if name[:n] in whole), None) or (next((n for n in lengths if name[:n] in begun), 1), False)
 
 
+@functools.lru_cache
 def shown(name):
     """A record's name as it is written: each maximal ill-formed part replaced."""
-    text = b""
-    while name:
-        length, whole = part(name)
-        text, name = text + (name[:length] if whole else REPLACEMENT), name[length:]
-    return text
+    text, at = [], 0
+    while at < len(name):
+        length, whole = part(name[at:at + 4])
+        text.append(name[at:at + length] if whole else REPLACEMENT)
+        at += length
+    return b"".join(text)
 
 
 def modifier(f):
@@ -302,8 +307,8 @@ class Stream:
 class Open:
     """The open indexes of one list; what was opened behind a mark is closed by going back to it."""
 
-    def __init__(self, *first):
-        self.items = list(first)
+    def __init__(self):
+        self.items = []
 
     def open(self, index):
         if index in self.items:
@@ -328,17 +333,28 @@ def anonymous(name):
 
 
 class Formatter:
-    """One call: its streams, flags, pointer size and the text so far."""
+    """One call: its streams, flags, pointer size, the text so far and how many indexes it opened."""
 
     def __init__(self, types, ids, flags, pointer_size, room):
         self.types, self.ids, self.flags, self.pointer_size, self.room = types, ids, flags, pointer_size, room
-        self.text = bytearray()
+        self.text, self.opened = bytearray(), 0
 
     def put(self, text):
-        for byte in text:
-            if len(self.text) == self.room:
-                raise Refused(15, 0)
-            self.text.append(byte)
+        fits = self.room - len(self.text)
+        self.text += text[:fits]
+        if len(text) > fits:
+            raise Refused(15, 0)
+
+    def open(self, index, seen):
+        """Opens an index in a list. It counts each time, whatever is closed later."""
+        seen.open(index)
+        self.opened += 1
+
+    def fresh(self, index):
+        """A fresh list, in which a function type is opened."""
+        seen = Open()
+        self.open(index, seen)
+        return seen
 
     def has(self, flag):
         return self.flags & flag != 0
@@ -393,7 +409,7 @@ class Formatter:
                 return self.put(b"<unimplemented type kind 0x%x>" % refused.detail)
             raise
         mark = seen.mark()
-        seen.open(index)
+        self.open(index, seen)
         self.type(record, seen)
         seen.back(mark)
 
@@ -442,7 +458,7 @@ class Formatter:
 
     def modifier(self, record, seen):
         mark = seen.mark()
-        seen.open(record.target)
+        self.open(record.target, seen)
         target = self.types.read(record.target)
         if target.what == "pointer":
             self.pointer(target, record.const, seen)
@@ -509,7 +525,7 @@ class Formatter:
         if self.has(NO_ARGUMENTS):
             return
         mark = seen.mark()
-        seen.open(record.arguments)
+        self.open(record.arguments, seen)
         entries = self.types.read(record.arguments)
         if entries.what != "arguments":
             raise Refused(9, record.arguments)
@@ -531,12 +547,12 @@ class Formatter:
         mark = seen.mark()
         while True:
             index = record.target
-            seen.open(index)
+            self.open(index, seen)
             target = self.types.read(index)
             if target.what == "modifier":
                 levels[-1][1] = target.const
                 index = target.target
-                seen.open(index)
+                self.open(index, seen)
                 target = self.types.read(index)
             if target.what != "pointer":
                 break
@@ -604,7 +620,7 @@ class Formatter:
     def function(self, name, index):
         if index == 0:
             return self.name(name)
-        seen = Open(index)
+        seen = self.fresh(index)
         record = self.types.read(index)
         if record.what == "method":
             self.method_start(record, seen)
@@ -646,7 +662,7 @@ class Formatter:
             self.put(b"<unhandled id scope 0x%x>::" % record.kind)
 
     def function_id(self, record, before):
-        seen = Open(record.type)
+        seen = self.fresh(record.type)
         kind = self.types.read(record.type)
         if kind.what != "procedure":
             raise Refused(10, record.type)
@@ -658,7 +674,7 @@ class Formatter:
         self.procedure_rest(kind, record.name, seen)
 
     def member_id(self, record):
-        seen = Open(record.type)
+        seen = self.fresh(record.type)
         kind = self.types.read(record.type)
         if kind.what != "method":
             raise Refused(11, record.type)
@@ -669,7 +685,8 @@ class Formatter:
         self.method_arguments(kind, True, seen)
 
 
-# The four calls: (number, detail, text or size). Each may be lent places, which are checked behind the streams
+# The four calls: (number, detail, text or size), and the three that measure: (number, detail, length of the text and indexes opened). Each may be lent
+# places, which are checked behind the streams
 
 def check_size(pointer_size):
     if pointer_size not in (4, 8, 16):
@@ -685,14 +702,22 @@ def check_streams(types, ids, places):
     return types, ids
 
 
-def text_call(types, ids, flags, pointer_size, room, places, write):
+def text(formatter):
+    return bytes(formatter.text)
+
+
+def measure(formatter):
+    return len(formatter.text), formatter.opened
+
+
+def text_call(types, ids, flags, pointer_size, room, places, write, answer=text):
     try:
         if flags & ~ALL_FLAGS:
             raise Refused(1, flags)
         check_size(pointer_size)
         formatter = Formatter(*check_streams(types, ids, places), flags, pointer_size, room)
         write(formatter)
-        return 0, 0, bytes(formatter.text)
+        return 0, 0, answer(formatter)
     except Refused as refused:
         return refused.number, refused.detail, None
 
@@ -707,6 +732,18 @@ def format_id(types, ids, flags, pointer_size, room, index, places=None):
 
 def format_type(types, flags, pointer_size, room, index, places=None):
     return text_call(types, None, flags, pointer_size, room, places, lambda f: f.type_index(index, Open()))
+
+
+def measure_function(types, flags, pointer_size, name, index, places=None):
+    return text_call(types, None, flags, pointer_size, MEASURED, places, lambda f: f.function(name, index), measure)
+
+
+def measure_id(types, ids, flags, pointer_size, index, places=None):
+    return text_call(types, ids, flags, pointer_size, MEASURED, places, lambda f: f.id(index), measure)
+
+
+def measure_type(types, flags, pointer_size, index, places=None):
+    return text_call(types, None, flags, pointer_size, MEASURED, places, lambda f: f.type_index(index, Open()), measure)
 
 
 def get_type_size(types, pointer_size, index, places=None):
@@ -731,23 +768,25 @@ def fill_places(types, places):
 
 
 def line(number, answer):
-    """A line of `names`: running number, refusal or 0, detail, then text or size."""
+    """A line of `names`: running number, refusal or 0, detail, then text or size; or the two numbers of a measure."""
     refusal, detail, value = answer
     head = b"%d %d 0x%x" % (number, refusal, detail)
     if value is None:
         return head + b"\n"
+    if isinstance(value, tuple):
+        value = b"%d %d" % value
     return head + b" " + (value if isinstance(value, bytes) else b"%d" % value) + b"\n"
 
 
-def sheet(types, ids, commands, places=None):
-    """The output of `names`, from the bytes of its three files; with places, that of the same calls that take them."""
-    types, ids, commands = types[:16384], ids[:16384], commands[:16384]
-    flags, pointer_size, number, at, out = 0, 8, 0, 0, b""
+def calls(commands):
+    """The calls of a sheet: command, flags, pointer size, index and name. The last may be an unknown or cut command, which has no index."""
+    flags, pointer_size, at = 0, 8, 0
     widths = {0x01: 4, 0x02: 1, 0x10: 4, 0x11: 4, 0x12: 4, 0x13: 20}
     while at < len(commands):
         command = commands[at]
         if command not in widths or at + 1 + widths[command] > len(commands):
-            return out + line(number + 1, (16, command, None))
+            yield command, flags, pointer_size, None, b""
+            return
         fields = commands[at + 1:at + 1 + widths[command]]
         value = int.from_bytes(fields[:4], "little")
         at += 1 + widths[command]
@@ -756,17 +795,43 @@ def sheet(types, ids, commands, places=None):
         elif command == 0x02:
             pointer_size = value
         else:
-            number += 1
-            if command == 0x10:
-                answer = format_type(types, flags, pointer_size, 4096, value, places)
-            elif command == 0x11:
-                answer = get_type_size(types, pointer_size, value, places)
-            elif command == 0x12:
-                answer = format_id(types, ids, flags, pointer_size, 4096, value, places)
-            else:
-                answer = format_function(types, flags, pointer_size, 4096, fields[4:].split(b"\0")[0], value, places)
-            out += line(number, answer)
-    return out
+            yield command, flags, pointer_size, value, fields[4:].split(b"\0")[0]
+
+
+def lines(answers):
+    return b"".join(line(number, answer) for number, answer in enumerate(answers, 1))
+
+
+def sheet(types, ids, commands, places=None):
+    """The output of `names`, from the bytes of its three files; with places, that of the same calls that take them."""
+    types, ids, commands = types[:16384], ids[:16384], commands[:16384]
+
+    def answer(command, flags, pointer_size, index, name):
+        if index is None:
+            return 16, command, None
+        if command == 0x10:
+            return format_type(types, flags, pointer_size, 4096, index, places)
+        if command == 0x11:
+            return get_type_size(types, pointer_size, index, places)
+        if command == 0x12:
+            return format_id(types, ids, flags, pointer_size, 4096, index, places)
+        return format_function(types, flags, pointer_size, 4096, name, index, places)
+
+    return lines(answer(*call) for call in calls(commands))
+
+
+def measures(types, ids, commands, places=None):
+    """A line for each text command of a sheet, with its measure; commands of sizes have none and are not counted."""
+    def answer(command, flags, pointer_size, index, name):
+        if index is None:
+            return 16, command, None
+        if command == 0x10:
+            return measure_type(types, flags, pointer_size, index, places)
+        if command == 0x12:
+            return measure_id(types, ids, flags, pointer_size, index, places)
+        return measure_function(types, flags, pointer_size, name, index, places)
+
+    return lines(answer(*call) for call in calls(commands) if call[0] != 0x11 or call[3] is None)
 
 
 def pass_line(types, length):
@@ -816,6 +881,12 @@ def places_outputs(folder):
     return [(run_sheet(folder, numbers(load(folder, "places.bin"))), expected(folder)), (passes(load(folder, "types.bin"), lengths(told)), told)]
 
 
+def measures_outputs(folder):
+    lent = numbers(load(folder, "places.bin")) if os.path.exists(os.path.join(folder, "places.bin")) else None
+    read = measures(load(folder, "types.bin"), load(folder, "ids.bin"), load(folder, "sheet.bin"), lent)
+    return [(read, load(folder, "expected.txt"))]
+
+
 def compare(folders, what, outputs):
     """Says which folders differ from what is expected of them and where first, and how many do."""
     wrong = 0
@@ -857,6 +928,8 @@ def main():
         compare(rest, "sheets", sheet_outputs)
     elif mode == "places":
         compare(rest, "cases of places", places_outputs)
+    elif mode == "measures":
+        compare(rest, "cases of measures", measures_outputs)
     elif mode == "vectors":
         for name in load(rest[0], "args").decode().split():
             sys.stdout.buffer.write(vectors(rest[0], name))
