@@ -881,9 +881,13 @@ def places_outputs(folder):
     return [(run_sheet(folder, numbers(load(folder, "places.bin"))), expected(folder)), (passes(load(folder, "types.bin"), lengths(told)), told)]
 
 
+def given_places(folder):
+    """The places that the calls of a case are lent, or None."""
+    return numbers(load(folder, "places.bin")) if os.path.exists(os.path.join(folder, "places.bin")) else None
+
+
 def measures_outputs(folder):
-    lent = numbers(load(folder, "places.bin")) if os.path.exists(os.path.join(folder, "places.bin")) else None
-    read = measures(load(folder, "types.bin"), load(folder, "ids.bin"), load(folder, "sheet.bin"), lent)
+    read = measures(load(folder, "types.bin"), load(folder, "ids.bin"), load(folder, "sheet.bin"), given_places(folder))
     return [(read, load(folder, "expected.txt"))]
 
 
