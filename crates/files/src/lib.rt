@@ -1,10 +1,12 @@
-// What the programs share: reading files up to a limit, printing bytes and numbers, and a look at what a call left of a buffer. No contract can say what is
-// read or printed.
+// What the programs share: reading files up to a limit, printing bytes, numbers and refusals, and a look at what a call left of a buffer. No contract can say
+// what is read or printed.
 ghost use Prim.Native.Nat.{min};
 ghost use mathlib.Core.Path.{_≡_};
 ghost use lib.ListN.{length};
 ghost use Rattle.io.specs.Counts.{Counts};
 use libc::STDOUT_FILENO;
+use streams::refusal::Refusal;
+use wire::field::Field32;
 
 // Prints bytes on standard output.
 pub fn say(text: &[u8]) {
@@ -20,6 +22,19 @@ pub fn decimal(label: &[u8], n: u64) {
 pub fn hex(label: &[u8], n: u32) {
     say(label);
     io::print_hex(STDOUT_FILENO, n as u64, 1);
+}
+
+// Number and detail of a refusal.
+pub fn refused(f: Refusal) {
+    decimal(b" ", f.number() as u64);
+    hex(b" 0x", f.detail());
+}
+
+// The line before what is printed of a case.
+pub fn title(name: &[u8]) {
+    say(b"== ");
+    say(name);
+    say(b"\n");
 }
 
 // A buffer is lent full of this byte, so that what a call leaves alone can be seen.
@@ -56,6 +71,28 @@ pub fn within(n: usize, s: &[u8]) -> usize
     ensures { λ r. ⌜ r ≡ min n (length (now (s .entry))) ⌝ }
 {
     if n < s.len() { n } else { s.len() }
+}
+
+// A number, or how many entries a slice has where that is less.
+pub fn entries_within(n: usize, s: &[u32]) -> usize
+    ensures { λ r. ⌜ Counts r (now (s .entry)) ⌝ }
+{
+    if n < s.len() { n } else { s.len() }
+}
+
+// The numbers in bytes, as many as there is room for, and how many these are.
+pub fn numbers(from: &[u8], to: &mut [u32]) -> usize {
+    let mut at = 0;
+    let mut n = 0;
+    while n < to.len() {
+        let Field32::Value(value) = wire::field::u32_at(from, at) else {
+            return n;
+        };
+        to[n] = value;
+        at = std::num::wrapping_add_usize(at, 4);
+        n += 1;
+    }
+    n
 }
 
 // Puts an ending behind the first bytes of a path and answers the length of both, or 0 where there is no room.

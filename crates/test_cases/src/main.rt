@@ -9,10 +9,11 @@ use files::decimal;
 use files::fill;
 use files::hex;
 use files::judge;
+use files::refused;
 use files::say;
+use files::title;
 use files::within;
 use libc::STDERR_FILENO;
-use streams::refusal::Refusal;
 use wire::field::Field32;
 
 // Where a list of calls has been read to, how many calls it made, and what holds for the next one.
@@ -53,11 +54,6 @@ fn show(text: &[u8]) {
     say(b" start ");
     let k = within(60, text);
     say(&text[..k]);
-}
-
-fn refused(f: Refusal) {
-    decimal(b" ", f.number() as u64);
-    hex(b" 0x", f.detail());
 }
 
 fn text_answer(out: &[u8], a: Answer) {
@@ -303,12 +299,6 @@ fn run(types: &[u8], ids: &[u8], calls: &[u8]) {
         }
         s = t;
     }
-}
-
-fn title(name: &[u8]) {
-    say(b"== ");
-    say(name);
-    say(b"\n");
 }
 
 // Room for a type stream.

@@ -1,24 +1,25 @@
 // Runs sheets whose calls are lent places, then the pass that fills places, and prints a line for each call.
 // An argument NAME stands for NAME-types.bin, NAME-ids.bin, NAME-places.bin, NAME-sheet.bin and NAME-lengths.bin; data/README.md says what these are.
-ghost use Rattle.io.specs.Counts.{Counts};
 use checked_calls::answer::Answer;
 use checked_calls::calls::SizeAnswer;
 use codeview::index::IdIndex;
 use codeview::index::TypeIndex;
 use files::all;
 use files::decimal;
+use files::entries_within;
 use files::fill;
-use files::hex;
 use files::judge;
 use files::load_named;
+use files::numbers;
+use files::refused;
 use files::say;
+use files::title;
 use files::within;
 use leaf_writers::names::name_of;
 use record_places::PlacesAnswer;
 use sheet::command::Command;
 use streams::refusal::Refusal;
 use type_formatter::placed;
-use wire::field::Field32;
 use wire::name::Name;
 
 // Where a sheet has been read to, how many lines it printed, and what holds for the next call.
@@ -56,18 +57,6 @@ fn all_entries(places: &[u32], from: usize, entry: u32) -> bool {
         i += 1;
     }
     true
-}
-
-fn refused(f: Refusal) {
-    decimal(b" ", f.number() as u64);
-    hex(b" 0x", f.detail());
-}
-
-// A number, or how many entries a slice has where that is less.
-fn entries_within(n: usize, s: &[u32]) -> usize
-    ensures { λ r. ⌜ Counts r (now (s .entry)) ⌝ }
-{
-    if n < s.len() { n } else { s.len() }
 }
 
 fn text_line(out: &[u8], number: u64, a: Answer) {
@@ -284,21 +273,6 @@ fn passes(types: &[u8], lengths: &[u32]) {
     }
 }
 
-// The numbers in bytes, as many as there is room for, and how many these are.
-fn numbers(from: &[u8], to: &mut [u32]) -> usize {
-    let mut at = 0;
-    let mut n = 0;
-    while n < to.len() {
-        let Field32::Value(value) = wire::field::u32_at(from, at) else {
-            return n;
-        };
-        to[n] = value;
-        at = std::num::wrapping_add_usize(at, 4);
-        n += 1;
-    }
-    n
-}
-
 // The sheet of a case; its calls are lent the places of the case.
 fn show_sheet(name: &[u8], types: &[u8], ids: &[u8], sheet: &[u8]) {
     let mut bytes = sheet_printer::room();
@@ -317,12 +291,6 @@ fn show_passes(name: &[u8], types: &[u8]) {
     let count = numbers(&bytes[..n], &mut lengths);
     let k = entries_within(count, &lengths);
     passes(types, &lengths[..k]);
-}
-
-fn title(name: &[u8]) {
-    say(b"== ");
-    say(name);
-    say(b"\n");
 }
 
 fn show_case(name: &[u8]) {

@@ -6,10 +6,10 @@ use codeview::index::IdIndex;
 use codeview::index::TypeIndex;
 use files::decimal;
 use files::hex;
+use files::refused;
 use files::say;
 use libc::STDERR_FILENO;
 use streams::chains::check_stream;
-use streams::refusal::Refusal;
 use streams::refusal::StreamKind;
 use streams::stream::StreamCheck;
 
@@ -19,11 +19,6 @@ enum Call {
     Type,
     Function,
     Size,
-}
-
-fn refused(f: Refusal) {
-    decimal(b" ", f.number() as u64);
-    hex(b" 0x", f.detail());
 }
 
 fn show(out: &[u8], n: usize) {

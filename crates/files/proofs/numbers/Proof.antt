@@ -5,8 +5,8 @@ use native.Mathlib.Omega.{arith}
 use Prim.Native.Nat.{_-_}
 use mathlib.Core.Path.{_≡_, refl}
 use lib.ListN.{length, length-set}
-use Rattle.test_places.proofs.numbers.Statement.{statement}
-use Rattle.test_places.proofs.numbers.Tie as tie
+use Rattle.files.proofs.numbers.Statement.{statement}
+use Rattle.files.proofs.numbers.Tie as tie
 
 abbrev Inv-loop : tie.InvT-loop
 Inv-loop from to₀ at₀ n₀ to at n = length to ≡ length to₀

@@ -6,8 +6,8 @@ use mathlib.Core.Path.{sym}
 use native.Mathlib.Nat.{le-refl}
 use lib.ListN.{length}
 use lib.Seq.{length-take-le}
-use Rattle.test_places.proofs.entries_within.Statement.{statement}
-use Rattle.test_places.proofs.entries_within.Tie as tie
+use Rattle.files.proofs.entries_within.Statement.{statement}
+use Rattle.files.proofs.entries_within.Tie as tie
 
 returns : tie.Need-returns
 returns c =
