@@ -57,7 +57,7 @@ pub record Whole (buf l : List ℕ) (out : List ℕ) (n : ℕ) : Type 0 where
 pub line-whole : {buf b l : List ℕ} {p q : Pen} → p ≡ started (length buf) → Wrote (page buf p) (writing l) (page b q) → length l ≤ length buf → Whole buf l b (q .at)
 unfolding started stopOf
 line-whole {buf} {b} {l} {p} {q} e w h =
-    let v : Wrote (page buf (record { at = 0; last = 0; limit = length buf; stop = 0; detail = 0 })) (writing l) (page b q) = rw (← e) w in
+    let v : Wrote (page buf (record { at = 0; tally = 0; limit = length buf; stop = 0; detail = 0 })) (writing l) (page b q) = rw (← e) w in
     let f = ran-fits buf (length buf) l done [] (count 0 0) b q h v in
     let r = f .1 (f .0) in
     let k : 0 + length l ≤ length buf = omega arith in

@@ -15,6 +15,11 @@ use Rattle.checked_calls.specs.declared.answer.Answer.the-variants as answer
 use Rattle.checked_calls.specs.Checks.{ofSizeAnswer}
 use Rattle.checked_calls.specs.declared.calls.SizeAnswer.{SizeAnswer}
 use Rattle.checked_calls.specs.declared.calls.SizeAnswer.the-variants as size
+use Rattle.rules.specs.Measure.{Measure, MeasureReport, reportOf, ofMeasure}
+use Rattle.measures.specs.Measures.{ofMeasured}
+use Rattle.measures.specs.declared.answer.Extent.{Extent}
+use Rattle.measures.specs.declared.answer.Measure.{Measure as Measured}
+use Rattle.measures.specs.declared.answer.Measure.the-variants as measure
 use Rattle.sheet.specs.Sheet.{Fit}
 use Rattle.sheet.specs.Printed.{Shown, shown, laidOut}
 use Rattle.sheet.specs.declared.Printed.{Printed}
@@ -96,3 +101,18 @@ unfilled-case {f = f} e g h = refused f g h ∙ sym (ap ofPass e)
 
 pub pass-left : (out : List ℕ) (a : PlacesAnswer) (p : Pass) {r : Report} → leaves out a ≡ p → r ≡ ofPass a → (r ≡ ofPass (p .told)) × (out ≡ p .buf)
 pass-left out a p e f = (f ∙ ap (λ (q : Pass). ofPass (q .told)) e, ap (λ (q : Pass). q .buf) e)
+
+-- The cases of a measure, and what it tells: of a plain one or one with lent places, and of one over what is kept of a check.
+pub measure-case : {a : Measured} {e : Extent} → a ≡ measure.Text e → reportOf 0 0 (e .length) (e .opened) ≡ ofMeasured a
+unfolding ofMeasured
+measure-case e = sym (ap ofMeasured e)
+
+pub refused-measure-case : {a : Measured} {f : Refusal} {n d : ℕ} → a ≡ measure.Refused f → n ≡ numberOf f → d ≡ detailOf f → reportOf n d 0 0 ≡ ofMeasured a
+unfolding ofMeasured
+refused-measure-case e g h = rw (g, h) (sym (ap ofMeasured e))
+
+pub measure-report : {r : MeasureReport} (a : Measured) (m : Measure) {D : Type 0} → (ofMeasured a ≡ ofMeasure m) × D → r ≡ ofMeasured a → (r ≡ ofMeasure m) × D
+measure-report a m (e, d) h = (h ∙ e, d)
+
+pub measure-kept : {K : Type 0} {r : MeasureReport} (a : Measured) (m o : Measure) → (ofMeasured a ≡ ofMeasure m) × (K → ofMeasured a ≡ ofMeasure o) → r ≡ ofMeasured a → (r ≡ ofMeasure m) × (K → r ≡ ofMeasure o)
+measure-kept a m o (e, f) h = (h ∙ e, λ k. h ∙ f k)

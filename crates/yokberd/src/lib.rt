@@ -1,5 +1,5 @@
-// The calls for programs in C and Rust: each of the four calls, the batches, the sheet, the places and the container under its plain name, with numbers and
-// slices only. What a call answers beside its number goes into numbers that the caller lends. `c/yokberd.h` says the same to a C program.
+// The calls for programs in C and Rust: each of the four calls, the measures, the batches, the sheet, the places and the container under its plain name, with
+// numbers and slices only. What a call answers beside its number goes into numbers that the caller lends. `c/yokberd.h` says the same to a C program.
 ghost use mathlib.Core.Path.{_≡_};
 ghost use mathlib.Core.List.{[]};
 ghost use Prim.Native.Nat.{ℕ};
@@ -35,6 +35,8 @@ use type_formatter::format_type;
 use type_formatter::format_types;
 use type_formatter::get_type_size;
 use type_formatter::placed;
+
+pub mod measure;
 
 fn report_text(a: Answer, detail: &mut u32, written: &mut usize) -> u32
     ensures { λ r. ⌜ report r (now (detail .exit)) (now (written .exit)) ≡ ofAnswer a ⌝ }
