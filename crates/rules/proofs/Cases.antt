@@ -1,4 +1,5 @@
--- The ten numbered cases of document 01, "A small stream": one table, and one theorem over the definitions by computation. Assumes nothing.
+-- The ten numbered cases of document 01, "A small stream", and further ones: tables, and one theorem over the definitions for each by computation. Assumes
+-- nothing.
 use Prim.Native.Nat.{ℕ, zero, suc, _+_, _-_, _/_, _%_}
 use Prim.Native.String.{String}
 use mathlib.Core.Path.{_≡_, refl}
@@ -33,6 +34,7 @@ use Rattle.rules.specs.Ids.{scopeText, functionIdText, idText, idAlone, 
 use Rattle.rules.specs.Opening.{afterRead, sameIndex, rank, entryOf, body, walked, plainly}
 use Rattle.rules.specs.Call.{Outcome, text, stopped, answer, within, whole, overTypes, functionReading, typeReading as typeReading₀, sizeReading, sizeOutcome, sizeAnswer, Size, unsized}
 use Rattle.rules.specs.Call as calls
+use Rattle.rules.specs.Measure.{Measure, measured, unmeasured, measureOf, functionMeasure, typeMeasure}
 
 -- A line `unfolding computing` opens every definition that a case computes with.
 unfoldable computing : Unit {0}
@@ -68,10 +70,11 @@ small =
     ++ (rec₀ 0x1002 (u32 0x1008 ++ u32 0x1000c)
     ++ rec₀ 0x1002 (u32 0x2000 ++ u32 0x1000c))))))))))
 
--- What a case shows: a text, a size, or a refusal by its number and detail.
+-- What a case shows: a text, a size, a measure, or a refusal by its number and detail.
 pub data Shown : Type 0 where
   written : List ℕ → Shown
   sizeIs : ℕ → Shown
+  measuredAs : ℕ → ℕ → Shown
   refusedBy : ℕ → ℕ → Shown
 
 abbrev pub shown : Outcome → Shown
@@ -259,3 +262,52 @@ matched =
 pub matched-by-bytes : map (λ c. c .given) matched ≡ map (λ c. c .wanted) matched
 unfolding computing
 matched-by-bytes = refl
+
+-- Document 02, Note 4: length and openings. Each index that is opened stands beside its case.
+abbrev pub shownMeasure : Measure → Shown
+shownMeasure (measured n m) = measuredAs n m
+shownMeasure (unmeasured f) = refusedBy (numberOf f) (detailOf f)
+
+abbrev typeMeasured : ℕ → ℕ → Shown
+typeMeasured flags index = shownMeasure (typeMeasure flags 8 small index)
+
+abbrev functionMeasured : ℕ → String → ℕ → Shown
+functionMeasured flags name index = shownMeasure (functionMeasure flags 8 small (bytes name) index)
+
+abbrev measuredBy : List Record → List IdRecord → Task → Shown
+measuredBy rs ds x = shownMeasure (measureOf (asked₀ rs ds x))
+
+abbrev pub counted : List Case
+counted =
+    -- void (*)(int): 0x1002, 0x1001, 0x3, 0x1000, 0x74
+    (typeMeasured 0 0x1002 ⇒ measuredAs 13 5) ∷
+    -- char const* const: 0x1004, 0x1003, 0x70
+    (typeMeasured 0 0x1004 ⇒ measuredAs 17 3) ∷
+    -- struct A[5][3]: 0x1007; array elements are not opened
+    (typeMeasured 0 0x1007 ⇒ measuredAs 14 1) ∷
+    (typeMeasured 0 0x74 ⇒ measuredAs 3 1) ∷
+    (typeMeasured 0 0x1008 ⇒ refusedBy 12 0x1008) ∷
+    -- an index by itself that a mark replaces is not opened; a target is, before it is read: 0x1009, 0x2000
+    (typeMeasured 0 0x2000 ⇒ measuredAs 21 0) ∷
+    (typeMeasured 0 0x1009 ⇒ measuredAs 21 2) ∷
+    -- void step(int): 0x1001, 0x3, 0x1000, 0x74; void step: 0x1001, 0x3
+    (functionMeasured 0 "step" 0x1001 ⇒ measuredAs 14 4) ∷
+    (functionMeasured 32 "step" 0x1001 ⇒ measuredAs 9 2) ∷
+    -- function type 0 is not opened; one that is no function type is
+    (functionMeasured 0 "step" 0 ⇒ measuredAs 4 0) ∷
+    (functionMeasured 0 "step" 0x74 ⇒ measuredAs 4 1) ∷
+    (functionMeasured 0 "" 0x74 ⇒ measuredAs 0 1) ∷
+    (functionMeasured 0 "step" 0x2000 ⇒ refusedBy 8 0x2000) ∷
+    -- a repeat counts each time: the list, 0x74, 0x74
+    (measuredBy (arguments (0x74 ∷ 0x74 ∷ []) ∷ []) [] (byItself 0x1000) ⇒ measuredAs 7 3) ∷
+    -- a method without its list: itself, its result, the list
+    (measuredBy (plainMethod 0 0x1001 0x2000 ∷ []) [] (byItself 0x1000) ⇒ measuredAs 28 3) ∷
+    -- int*, int: the method, its result, its list, the this pointer and its target, the argument; its test opens nothing
+    (measuredBy (plainMethod 0x1003 0x1002 0x1001 ∷ arguments (0x74 ∷ []) ∷ struct "A" false 4 ∷ to 0x74 ∷ []) [] (byItself 0x1000) ⇒ measuredAs 17 6) ∷
+    -- an id is not opened, its function type and that of its scope are: f()::f(), each with its list
+    (measuredBy (procedure 0 false 0x1001 ∷ arguments [] ∷ []) (scoped 1 (function 0 0x1000 (bytes "f") ∷ [])) (idOf 0x1000) ⇒ measuredAs 8 4) ∷
+    []
+
+pub counted-cases : map (λ c. c .given) counted ≡ map (λ c. c .wanted) counted
+unfolding computing measureOf typeMeasure functionMeasure
+counted-cases = refl
