@@ -4,7 +4,7 @@ use Prim.Native.Nat.{ℕ, zero, suc, _+_, _*_, _-_, _≤_}
 use mathlib.Core.Path.{_≡_, refl}
 use mathlib.Core.Bool.{Bool, true, false, not}
 use mathlib.Core.List.{List, [], _∷_}
-use lib.Dec.{T, leb, nleb→lt}
+use lib.Dec.{T, eqb, leb, nleb→lt}
 use lib.ListN.{length, length-append}
 use native.Mathlib.Omega.{arith}
 use Rattle.interpreter.specs.Trace.{
@@ -40,6 +40,7 @@ use Rattle.interpreter.specs.Trace.{
   caught,
   exec,
   Key,
+  key,
   Held,
   held,
   Entry,
@@ -226,3 +227,12 @@ module _ {R : Type 0} where
         pub paid-walk : (rank : Task → ℕ) (h : Held) (t : Task) → Paid (left h) 0 (walk same entryOf body rank h t)
         unfolding walk
         paid-walk rank h t = paid-run _ h t
+
+-- "A repeat counted each time" (document 02, Note 4): a task that takes up another twice, one after the other, opens three.
+abbrev pub twice : ℕ → Prog ℕ ℕ
+twice zero = seq (call 1) (call 1)
+twice (suc n) = write []
+
+pub repeat-counted : run (λ j k. eqb (j .index) (k .index)) (λ t. opens (key 0 t)) twice strict 2 (held 0 []) 0 ≡ tr [] done [] (count 3 3)
+unfolding run opening exec isOpen
+repeat-counted = refl
