@@ -143,12 +143,13 @@ pub fn text(out: &mut [u8], p: Pen, s: &[u8]) -> Pen
     if 0 < n {
         if n <= room(p) {
             let end = at + n;
+            let b = s[n - 1];
             if end <= out.len() {
                 copy(&mut out[at..end], s);
-                return past(p, end, s[n - 1]);
+                return past(p, end, b);
             }
             if out.len() <= at {
-                return past(p, end, s[n - 1]);
+                return past(p, end, b);
             }
         }
     }

@@ -90,7 +90,7 @@ pub extern "C" fn yokberd_measure_type(
     report_measure(a, detail, length, opened)
 }
 
-// The measure of a function, by its name and type over streams that were checked before.
+// The measure of a function, by its name and type, over streams that were checked before.
 #[no_mangle]
 pub extern "C" fn yokberd_checked_measure_function(
     types: &[u8],

@@ -14,6 +14,12 @@ room-requires c κs = search needs
 add-end : tie.Need-add-end
 add-end c = let m = room-tells (c .before .before .before .before .before .args .p) (length (c .before .before .before .before .before .args .s .now)) (c .before .room .result) (c .before .room .ensures) (c .before .before .if1 .taken) (c .if2 .taken) in omega arith
 
+sub-b : tie.Need-sub-b
+sub-b c = search needs
+
+shared-slice-read-b : tie.Need-shared-slice-read-b
+shared-slice-read-b c = search needs
+
 sub-copy : tie.Need-sub-copy
 sub-copy c = search needs
 
@@ -26,29 +32,17 @@ part-copy-end c = search needs
 copy-requires : tie.Need-copy-requires
 copy-requires c κs = simp (length-take, length-drop) (omega (arith, c .before .if3 .taken))
 
-sub-past : tie.Need-sub-past
-sub-past c = search needs
-
-shared-slice-read-past : tie.Need-shared-slice-read-past
-shared-slice-read-past c = search needs
-
 past-requires : tie.Need-past-requires
 past-requires c κs = search needs
 
 returns : tie.Need-returns
-returns c = wrote-run (c .before .before .before .before .before .before .before .before .before .before .before .before .args .out .now) (c .before .before .before .before .copy .last .0) (c .before .before .before .before .before .before .before .before .before .before .before .before .args .s .now) (c .before .before .before .before .before .before .before .before .before .before .before .before .args .p) _ (c .before .before .before .before .before .before .before .before .before .before .before .before .args .p .at + length (c .before .before .before .before .before .before .before .before .before .before .before .before .args .s .now) - c .before .before .before .before .before .before .before .before .before .before .before .before .args .p .at) (room-tells (c .before .before .before .before .before .before .before .before .before .before .before .before .args .p) (length (c .before .before .before .before .before .before .before .before .before .before .before .before .args .s .now)) (c .before .before .before .before .before .before .before .before .room .result) (c .before .before .before .before .before .before .before .before .room .ensures) (c .before .before .before .before .before .before .before .before .before .if1 .taken) (c .before .before .before .before .before .before .before .if2 .taken)) (c .before .before .before .before .before .before .before .before .before .if1 .taken) (c .before .before .before .before .before .before .if3 .taken) (omega arith) (c .before .before .before .before .copy .ensures) (c .past .ensures)
-
-sub-past-2 : tie.Need-sub-past-2
-sub-past-2 c = search needs
-
-shared-slice-read-past-2 : tie.Need-shared-slice-read-past-2
-shared-slice-read-past-2 c = search needs
+returns c = wrote-run (c .before .before .before .before .before .before .before .before .before .before .before .before .args .out .now) (c .before .before .before .copy .last .0) (c .before .before .before .before .before .before .before .before .before .before .before .before .args .s .now) (c .before .before .before .before .before .before .before .before .before .before .before .before .args .p) _ (c .before .before .before .before .before .before .before .before .before .before .before .before .args .p .at + length (c .before .before .before .before .before .before .before .before .before .before .before .before .args .s .now) - c .before .before .before .before .before .before .before .before .before .before .before .before .args .p .at) (room-tells (c .before .before .before .before .before .before .before .before .before .before .before .before .args .p) (length (c .before .before .before .before .before .before .before .before .before .before .before .before .args .s .now)) (c .before .before .before .before .before .before .before .before .room .result) (c .before .before .before .before .before .before .before .before .room .ensures) (c .before .before .before .before .before .before .before .before .before .if1 .taken) (c .before .before .before .before .before .before .before .if2 .taken)) (c .before .before .before .before .before .before .before .before .before .if1 .taken) (c .before .before .before .before .before .if3 .taken) (omega arith) (c .before .before .before .copy .ensures) (c .past .ensures)
 
 past-requires-2 : tie.Need-past-requires-2
 past-requires-2 c κs = search needs
 
 returns-2 : tie.Need-returns-2
-returns-2 c = wrote-past (c .before .before .before .before .before .before .before .before .before .args .out .now) (c .before .before .before .before .before .before .before .before .before .args .s .now) (c .before .before .before .before .before .before .before .before .before .args .p) _ (room-tells (c .before .before .before .before .before .before .before .before .before .args .p) (length (c .before .before .before .before .before .before .before .before .before .args .s .now)) (c .before .before .before .before .before .room .result) (c .before .before .before .before .before .room .ensures) (c .before .before .before .before .before .before .if1 .taken) (c .before .before .before .before .if2 .taken)) (c .before .before .before .before .before .before .if1 .taken) (c .before .before .if4 .taken) (c .past2 .ensures)
+returns-2 c = wrote-past (c .before .before .before .before .before .before .before .before .before .args .out .now) (c .before .before .before .before .before .before .before .before .before .args .s .now) (c .before .before .before .before .before .before .before .before .before .args .p) _ (room-tells (c .before .before .before .before .before .before .before .before .before .args .p) (length (c .before .before .before .before .before .before .before .before .before .args .s .now)) (c .before .before .before .before .before .room .result) (c .before .before .before .before .before .room .ensures) (c .before .before .before .before .before .before .if1 .taken) (c .before .before .before .before .if2 .taken)) (c .before .before .before .before .before .before .if1 .taken) (c .before .if4 .taken) (c .past2 .ensures)
 
 text-by-byte-requires : tie.Need-text-by-byte-requires
 text-by-byte-requires c κs = search needs
@@ -68,17 +62,15 @@ text-spec =
     (tie.spec
     room-requires
     add-end
+    sub-b
+    shared-slice-read-b
     sub-copy
     part-copy-start
     part-copy-end
     copy-requires
-    sub-past
-    shared-slice-read-past
     past-requires
     same-length
     returns
-    sub-past-2
-    shared-slice-read-past-2
     past-requires-2
     returns-2
     text-by-byte-requires
