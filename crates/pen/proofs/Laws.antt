@@ -291,6 +291,14 @@ next-tally n = by (decLt n 0xffff_ffff_ffff_ff00)
     by (yes h) = rw (lt-ltb n 0xffff_ffff_ffff_ff00 h, lt-ltb (n / 256) most (omega arith)) (omega arith, omega arith)
     by (no h) = rw (le-ltb n 0xffff_ffff_ffff_ff00 (omega arith), le-ltb (n / 256) most (omega arith)) (refl, refl)
 
+pub tally-room : (n : ℕ) → n < 0xffff_ffff_ffff_ff00 → n + 256 ≡ nextTally n
+unfolding nextTally
+tally-room n h = rw (lt-ltb n 0xffff_ffff_ffff_ff00 h)
+
+pub tally-full : (n : ℕ) → 0xffff_ffff_ffff_ff00 ≤ n → n ≡ nextTally n
+unfolding nextTally
+tally-full n h = rw (le-ltb n 0xffff_ffff_ffff_ff00 h)
+
 pub wrote-opened : (b : List ℕ) (p q : Pen) → idle (readPen p .stop) ≡ false → q ≡ openedPen p → Wrote (page b p) opened (page b q)
 unfolding ink opened tallied tick openedPen
 wrote-opened b p q a e = record { is = ap (λ (x : Pen). readPage (page b x)) e ∙ by (readPen p .stop) refl ∙ sym (run-done (readPage (page b p)) [] [] (count 1 1)) }
