@@ -7,9 +7,9 @@
  * What a call asks of its caller is what C cannot state in a type:
  *
  * - No pointer is null, one with a length of 0 too. Each is aligned and points to as many elements as its length says, of at most PTRDIFF_MAX bytes.
- * - What a call writes (out, checked and places where they are filled, answers, detail, text_len, size, bytes, lines, at, len, filled) overlaps nothing else
- *   that it is lent, and no other thread touches it during the call. What it only reads is changed by no one during the call. Calls from any number of
- *   threads may share what is only read.
+ * - What a call writes (out, checked and places where they are filled, answers, detail, text_len, length, opened, size, bytes, lines, at, len, filled)
+ *   overlaps nothing else that it is lent, and no other thread touches it during the call. What it only reads is changed by no one during the call. Calls
+ *   from any number of threads may share what is only read.
  * - 512 KiB of stack. A thread of glibc has 8 MiB where nothing else is said.
  *
  * A call keeps nothing, allocates nothing and calls nothing but memcpy and memset.
@@ -26,7 +26,7 @@
  *
  *     time of a call <= the check + out_len * (95 openings + half a pass over the type stream)
  *
- * and what a caller can choose is out_len: where streams come from elsewhere, lend a small buffer.
+ * and what a caller can choose is out_len: where streams come from elsewhere, lend a small buffer. A measure lends none, and has 16,777,215 in its place.
  */
 #ifndef YOKBERD_H
 #define YOKBERD_H
@@ -39,9 +39,9 @@ extern "C" {
 #endif
 
 #define YOKBERD_VERSION_MAJOR 0
-#define YOKBERD_VERSION_MINOR 5
+#define YOKBERD_VERSION_MINOR 6
 #define YOKBERD_VERSION_PATCH 0
-#define YOKBERD_VERSION "0.5.0"
+#define YOKBERD_VERSION "0.6.0"
 
 /* Flags, to be added up. Another bit is refused: YOKBERD_UNKNOWN_FLAGS. */
 #define YOKBERD_NO_FUNCTION_RETURN 0x01u        /* no result before the function's name */
@@ -72,7 +72,7 @@ enum yokberd_number {
     YOKBERD_CIRCULAR_TYPE_DEFINITION = 12,                       /* the index that is met inside itself */
     YOKBERD_TOO_MANY_OPEN = 13,                                  /* the 97th index that would be open at once */
     YOKBERD_CHAIN_TOO_LONG = 14,                                 /* the 33rd record of a chain of array levels, size steps or id scopes */
-    YOKBERD_NO_ROOM = 15,                                        /* 0: the text is longer than out */
+    YOKBERD_NO_ROOM = 15,                                        /* 0: the text is longer than out, or in a measure than YOKBERD_LONGEST */
     YOKBERD_UNKNOWN_COMMAND = 16,                                /* the command byte; only a line of a sheet has this number */
     YOKBERD_WRONG_PLACE = 17                                     /* which entry of the places, from 0, is the first lacking or not that of the stream */
 };
@@ -197,9 +197,9 @@ uint32_t yokberd_get_type_size(const uint8_t *types, size_t types_len, uint32_t 
 
 /* Streams checked once, for many calls over the same bytes.
  *
- * yokberd_check_streams checks both streams in one pass over their records, and notes in checked what the four calls below it, the two batches over checked
- * streams and yokberd_checked_print_sheet go by: the bounds of both streams, and the places of records from which a look-up starts. Where a program has no
- * ids, lend no bytes of them, here and to the calls.
+ * yokberd_check_streams checks both streams in one pass over their records, and notes in checked what the four calls below it, the measures and the batches
+ * over checked streams and yokberd_checked_print_sheet go by: the bounds of both streams, and the places of records from which a look-up starts. Where a
+ * program has no ids, lend no bytes of them, here and to the calls.
  *
  *   stride          how many records apart the noted places are: 8 serves best. 0: as near as there are numbers for
  *   checked         the numbers to fill: YOKBERD_CHECKED at least, and one for each place
@@ -271,6 +271,51 @@ uint32_t yokberd_placed_format_type(const uint8_t *types, size_t types_len, cons
 
 uint32_t yokberd_placed_get_type_size(const uint8_t *types, size_t types_len, const uint32_t *places, size_t places_len, uint32_t pointer_size,
                                       uint32_t index, uint32_t *detail, uint64_t *size);
+
+/* How long a text is and how many indexes are opened for it, with no buffer lent: to lay out a page, or to lend just as many bytes as a text takes.
+ *
+ * Each call takes what the text call of the same name takes, but for out: plain, over streams checked once, over places.
+ *
+ * Accepted: returns YOKBERD_ACCEPTED. *length is the length of the text. To the text call an out of so many bytes is always enough, and one byte less never
+ * is, where the text has bytes. *opened is how many indexes that call opens; one that is opened again counts again. The function type 0 is not opened, nor
+ * is an index that is written by itself and that a mark replaces, `<missing type 0x2000>`. *detail is 0.
+ *
+ * Refused: returns the number and has the *detail that the text call has with an out of YOKBERD_LONGEST bytes; YOKBERD_NO_ROOM says that the text is longer
+ * than these. *length and *opened are 0.
+ *
+ * A measure takes about as long as the text call with that out. There is no shorter one: where streams come from elsewhere, lend the text call a small
+ * buffer in place of a measure, and see whether it is refused by YOKBERD_NO_ROOM.
+ */
+#define YOKBERD_LONGEST 16777215
+uint32_t yokberd_measure_function(const uint8_t *types, size_t types_len, uint32_t flags, uint32_t pointer_size, const uint8_t *name, size_t name_len,
+                                  uint32_t index, uint32_t *detail, size_t *length, uint64_t *opened);
+
+uint32_t yokberd_measure_id(const uint8_t *types, size_t types_len, const uint8_t *ids, size_t ids_len, uint32_t flags, uint32_t pointer_size,
+                            uint32_t index, uint32_t *detail, size_t *length, uint64_t *opened);
+
+uint32_t yokberd_measure_type(const uint8_t *types, size_t types_len, uint32_t flags, uint32_t pointer_size, uint32_t index, uint32_t *detail,
+                              size_t *length, uint64_t *opened);
+
+uint32_t yokberd_checked_measure_function(const uint8_t *types, size_t types_len, const uint32_t *checked, size_t checked_len, uint32_t flags,
+                                          uint32_t pointer_size, const uint8_t *name, size_t name_len, uint32_t index, uint32_t *detail, size_t *length,
+                                          uint64_t *opened);
+
+uint32_t yokberd_checked_measure_id(const uint8_t *types, size_t types_len, const uint8_t *ids, size_t ids_len, const uint32_t *checked,
+                                    size_t checked_len, uint32_t flags, uint32_t pointer_size, uint32_t index, uint32_t *detail, size_t *length,
+                                    uint64_t *opened);
+
+uint32_t yokberd_checked_measure_type(const uint8_t *types, size_t types_len, const uint32_t *checked, size_t checked_len, uint32_t flags,
+                                      uint32_t pointer_size, uint32_t index, uint32_t *detail, size_t *length, uint64_t *opened);
+
+uint32_t yokberd_placed_measure_function(const uint8_t *types, size_t types_len, const uint32_t *places, size_t places_len, uint32_t flags,
+                                         uint32_t pointer_size, const uint8_t *name, size_t name_len, uint32_t index, uint32_t *detail, size_t *length,
+                                         uint64_t *opened);
+
+uint32_t yokberd_placed_measure_id(const uint8_t *types, size_t types_len, const uint8_t *ids, size_t ids_len, const uint32_t *places, size_t places_len,
+                                   uint32_t flags, uint32_t pointer_size, uint32_t index, uint32_t *detail, size_t *length, uint64_t *opened);
+
+uint32_t yokberd_placed_measure_type(const uint8_t *types, size_t types_len, const uint32_t *places, size_t places_len, uint32_t flags,
+                                     uint32_t pointer_size, uint32_t index, uint32_t *detail, size_t *length, uint64_t *opened);
 
 /* Many ids, or many types, in one call, with each stream checked once; the last two go by the numbers of yokberd_check_streams and check none.
  *

@@ -3,8 +3,9 @@
 # crates/test_vectors/stdout, which a reading of document 01 in Python made, the rest with lines worked out by hand; and once more with no ids. Then c/pdb.c,
 # which names the ids of a .pdb file in batches, on the same pair inside such a file, which tools/msf.py makes, and on files without ids. Then c/checked.c on
 # all shipped pairs and damaged copies: calls over streams checked once against the plain ones, and over any numbers; and c/places.c on the same, longer
-# ones too: places filled, and calls over right, longer, short and wrong places. All once more under a sanitizer, and, where it is installed, under valgrind;
-# and c/pdb.c once more as yokberd.pc says that it is built.
+# ones too: places filled, and calls over right, longer, short and wrong places. Then c/measure.c on document 01's small stream, against lines worked out by
+# hand, and on all shipped pairs: measures against the text calls. All once more under a sanitizer, and, where it is installed, under valgrind; and c/pdb.c
+# once more as yokberd.pc says that it is built.
 #
 #     tools/staticlib.sh && tools/test-c.sh
 #
@@ -52,6 +53,32 @@ for ids in - "$work/none"; do
     PYTHONDONTWRITEBYTECODE=1 python3 tools/msf.py make "$work/no-ids-$(basename "$ids").pdb" 512 - - "$pair-types.bin" - "$ids"
 done
 
+# document 01's small stream with one id. The texts are the document's (crates/names/data/README.md has the cases), their lengths are counted. What is
+# opened, by document 02, Note 4: 0x1000 itself and 0x74; 0x1001 itself, void, 0x1000, 0x74; 0x1002 itself and those of 0x1001; 0x1003 itself and char; 0x1004
+# itself and those of 0x1003; 0x1005, 0x1006, 0x1007 themselves, for an array's elements are not opened; 0x1009 itself and its target, which is opened before
+# it is found missing. 0x100a and id 0x1001 are missing and written by themselves: a mark replaces them. The id and the function open 0x1001, void, 0x1000,
+# 0x74, with NO_ARGUMENTS 0x1001 and void. Function type 0 is not opened.
+small=crates/names/data
+cat >"$work/expected-measure" <<'END'
+type 0x1000, flags 0x0: 3 bytes, 2 opened: int
+type 0x1001, flags 0x0: 11 bytes, 4 opened: void ()(int
+type 0x1002, flags 0x0: 13 bytes, 5 opened: void (*)(int)
+type 0x1003, flags 0x0: 10 bytes, 2 opened: char const
+type 0x1004, flags 0x0: 17 bytes, 3 opened: char const* const
+type 0x1005, flags 0x0: 8 bytes, 1 opened: struct A
+type 0x1006, flags 0x0: 11 bytes, 1 opened: struct A[3]
+type 0x1007, flags 0x0: 14 bytes, 1 opened: struct A[5][3]
+type 0x1008, flags 0x0: 0 bytes, 0 opened: refused, a type is circular, detail 0x1008
+type 0x1009, flags 0x0: 21 bytes, 2 opened: <missing type 0x2000>
+type 0x100a, flags 0x0: 21 bytes, 0 opened: <missing type 0x100a>
+id 0x1000, flags 0x0: 14 bytes, 4 opened: void step(int)
+id 0x1001, flags 0x0: 21 bytes, 0 opened: <missing type 0x1001>
+function 0x1001, flags 0x0: 14 bytes, 4 opened: void step(int)
+function 0x1001, flags 0x20: 9 bytes, 2 opened: void step
+function 0x0, flags 0x0: 4 bytes, 0 opened: step
+191 bytes in all
+END
+
 compare() {
     "$@" "$pair-types.bin" "$pair-ids.bin" >"$work/printed"
     cmp "$work/printed" "$work/expected"
@@ -65,6 +92,16 @@ compare_pdb() {
     for file in "$work"/no-ids-*.pdb; do
         "$@" "$file" >"$work/printed"
         cmp "$work/printed" "$work/none"
+    done
+}
+
+# on the shipped pairs the program itself compares the measures with the text calls
+compare_measure() {
+    "$@" "$small/types.bin" "$small/ids.bin" >"$work/printed"
+    cmp "$work/printed" "$work/expected-measure"
+    for types in crates/test_vectors/data/*-types.bin; do
+        "$@" "$types" "${types%-types.bin}-ids.bin" >/dev/null
+        "$@" "$types" "$work/none" >/dev/null
     done
 }
 
@@ -124,6 +161,9 @@ fi
     "$cc" -std=c99 -Wall -Wextra -Wpedantic -Werror -O2 -Ic -o "$work/places" c/places.c "$archive"
     "$work/places" $pairs >"$work/said"
     echo "test-c: places: $(cat "$work/said")"
+    "$cc" -std=c99 -Wall -Wextra -Wpedantic -Werror -O2 -Ic -o "$work/measure" c/measure.c "$archive"
+    compare_measure "$work/measure"
+    echo "test-c: $(wc -l <"$work/expected-measure") lines of measures as expected; those of the shipped pairs as the text calls have them"
     sanitized="$cc -std=c99 -g -fsanitize=address,undefined -fno-sanitize-recover=all -Ic"
     $sanitized -o "$work/sanitized" c/example.c "$archive"
     compare "$work/sanitized"
@@ -133,12 +173,15 @@ fi
     "$work/checked-sanitized" $pairs >/dev/null
     $sanitized -o "$work/places-sanitized" c/places.c "$archive"
     "$work/places-sanitized" $pairs >/dev/null
+    $sanitized -o "$work/measure-sanitized" c/measure.c "$archive"
+    compare_measure "$work/measure-sanitized"
     echo "test-c: the same with the address and undefined behaviour sanitizers"
     if command -v valgrind >/dev/null; then
         compare valgrind -q --error-exitcode=1 --leak-check=full "$work/example"
         compare_pdb valgrind -q --error-exitcode=1 --leak-check=full "$work/pdb"
         valgrind -q --error-exitcode=1 --leak-check=full "$work/checked" $pairs >/dev/null
         valgrind -q --error-exitcode=1 --leak-check=full "$work/places" $pairs >/dev/null
+        compare_measure valgrind -q --error-exitcode=1 --leak-check=full "$work/measure"
         echo "test-c: the same under valgrind"
     fi
 }
