@@ -19,6 +19,18 @@ pub struct Printed {
     pub more: bool,
 }
 
+/// How long a text is, and what it takes to write it: what the measure of a call gives.
+///
+/// A buffer of `length` bytes is always enough for the call that writes the text, and one byte less never is, where the text has bytes.
+#[derive(Clone, Copy, Debug, PartialEq, Eq)]
+pub struct Measure {
+    /// How many bytes the text has.
+    pub length: usize,
+    /// How many indexes are opened for it. One that is opened again counts again. The function type 0 is not opened, nor is an index that is written by
+    /// itself and that a mark replaces, `<missing type 0x2000>`.
+    pub opened: u64,
+}
+
 /// What a batch says of one index: where its text lies in the lent buffer, or why it has none.
 #[derive(Clone, Copy, Debug, Default, PartialEq, Eq)]
 #[repr(C)]
@@ -103,6 +115,46 @@ mod library {
             index: u32,
             detail: *mut u32,
             text_len: *mut usize,
+        ) -> u32;
+        pub fn yokberd_checked_measure_function(
+            types: *const u8,
+            types_len: usize,
+            checked: *const u32,
+            checked_len: usize,
+            flags: u32,
+            pointer_size: u32,
+            name: *const u8,
+            name_len: usize,
+            index: u32,
+            detail: *mut u32,
+            length: *mut usize,
+            opened: *mut u64,
+        ) -> u32;
+        pub fn yokberd_checked_measure_id(
+            types: *const u8,
+            types_len: usize,
+            ids: *const u8,
+            ids_len: usize,
+            checked: *const u32,
+            checked_len: usize,
+            flags: u32,
+            pointer_size: u32,
+            index: u32,
+            detail: *mut u32,
+            length: *mut usize,
+            opened: *mut u64,
+        ) -> u32;
+        pub fn yokberd_checked_measure_type(
+            types: *const u8,
+            types_len: usize,
+            checked: *const u32,
+            checked_len: usize,
+            flags: u32,
+            pointer_size: u32,
+            index: u32,
+            detail: *mut u32,
+            length: *mut usize,
+            opened: *mut u64,
         ) -> u32;
         pub fn yokberd_checked_get_type_size(
             types: *const u8,
@@ -202,6 +254,46 @@ mod library {
             index: u32,
             detail: *mut u32,
             text_len: *mut usize,
+        ) -> u32;
+        pub fn yokberd_placed_measure_function(
+            types: *const u8,
+            types_len: usize,
+            places: *const u32,
+            places_len: usize,
+            flags: u32,
+            pointer_size: u32,
+            name: *const u8,
+            name_len: usize,
+            index: u32,
+            detail: *mut u32,
+            length: *mut usize,
+            opened: *mut u64,
+        ) -> u32;
+        pub fn yokberd_placed_measure_id(
+            types: *const u8,
+            types_len: usize,
+            ids: *const u8,
+            ids_len: usize,
+            places: *const u32,
+            places_len: usize,
+            flags: u32,
+            pointer_size: u32,
+            index: u32,
+            detail: *mut u32,
+            length: *mut usize,
+            opened: *mut u64,
+        ) -> u32;
+        pub fn yokberd_placed_measure_type(
+            types: *const u8,
+            types_len: usize,
+            places: *const u32,
+            places_len: usize,
+            flags: u32,
+            pointer_size: u32,
+            index: u32,
+            detail: *mut u32,
+            length: *mut usize,
+            opened: *mut u64,
         ) -> u32;
         pub fn yokberd_placed_get_type_size(
             types: *const u8,
@@ -309,6 +401,73 @@ pub fn format_type(types: &[u8], checked: &[u32], out: &mut [u8], flags: u32, po
         )
     };
     answer(number, detail, text_len)
+}
+
+/// How long the text of a function is, and how many indexes are opened for it.
+pub fn measure_function(types: &[u8], checked: &[u32], flags: u32, pointer_size: u32, name: &[u8], index: u32) -> Result<Measure, Error> {
+    let (mut detail, mut length, mut opened) = (0, 0, 0);
+    // SAFETY: the pointers and lengths are those of slices that live through the call, and the three numbers are lent to it alone.
+    let number = unsafe {
+        library::yokberd_checked_measure_function(
+            types.as_ptr(),
+            types.len(),
+            checked.as_ptr(),
+            checked.len(),
+            flags,
+            pointer_size,
+            name.as_ptr(),
+            name.len(),
+            index,
+            &mut detail,
+            &mut length,
+            &mut opened,
+        )
+    };
+    answer(number, detail, Measure { length, opened })
+}
+
+/// The same of an id.
+pub fn measure_id(types: &[u8], ids: &[u8], checked: &[u32], flags: u32, pointer_size: u32, index: u32) -> Result<Measure, Error> {
+    let (mut detail, mut length, mut opened) = (0, 0, 0);
+    // SAFETY: as in `measure_function`.
+    let number = unsafe {
+        library::yokberd_checked_measure_id(
+            types.as_ptr(),
+            types.len(),
+            ids.as_ptr(),
+            ids.len(),
+            checked.as_ptr(),
+            checked.len(),
+            flags,
+            pointer_size,
+            index,
+            &mut detail,
+            &mut length,
+            &mut opened,
+        )
+    };
+    answer(number, detail, Measure { length, opened })
+}
+
+/// The same of a type.
+pub fn measure_type(types: &[u8], checked: &[u32], flags: u32, pointer_size: u32, index: u32) -> Result<Measure, Error> {
+    let (mut detail, mut length, mut opened) = (0, 0, 0);
+    // SAFETY: as in `measure_function`.
+    let number = unsafe {
+        library::yokberd_checked_measure_type(
+            types.as_ptr(),
+            types.len(),
+            checked.as_ptr(),
+            checked.len(),
+            flags,
+            pointer_size,
+            index,
+            &mut detail,
+            &mut length,
+            &mut opened,
+        )
+    };
+    answer(number, detail, Measure { length, opened })
 }
 
 /// The texts of ids, one behind another from the start of `out`, with an answer for each; gives how many of the ids are done.
@@ -491,6 +650,73 @@ pub fn placed_format_type(types: &[u8], places: &[u32], out: &mut [u8], flags: u
         )
     };
     answer(number, detail, text_len)
+}
+
+/// How long the text of a function is, and how many indexes are opened for it, over places of any numbers.
+pub fn placed_measure_function(types: &[u8], places: &[u32], flags: u32, pointer_size: u32, name: &[u8], index: u32) -> Result<Measure, Error> {
+    let (mut detail, mut length, mut opened) = (0, 0, 0);
+    // SAFETY: as in `measure_function`.
+    let number = unsafe {
+        library::yokberd_placed_measure_function(
+            types.as_ptr(),
+            types.len(),
+            places.as_ptr(),
+            places.len(),
+            flags,
+            pointer_size,
+            name.as_ptr(),
+            name.len(),
+            index,
+            &mut detail,
+            &mut length,
+            &mut opened,
+        )
+    };
+    answer(number, detail, Measure { length, opened })
+}
+
+/// The same of an id.
+pub fn placed_measure_id(types: &[u8], ids: &[u8], places: &[u32], flags: u32, pointer_size: u32, index: u32) -> Result<Measure, Error> {
+    let (mut detail, mut length, mut opened) = (0, 0, 0);
+    // SAFETY: as in `measure_function`.
+    let number = unsafe {
+        library::yokberd_placed_measure_id(
+            types.as_ptr(),
+            types.len(),
+            ids.as_ptr(),
+            ids.len(),
+            places.as_ptr(),
+            places.len(),
+            flags,
+            pointer_size,
+            index,
+            &mut detail,
+            &mut length,
+            &mut opened,
+        )
+    };
+    answer(number, detail, Measure { length, opened })
+}
+
+/// The same of a type.
+pub fn placed_measure_type(types: &[u8], places: &[u32], flags: u32, pointer_size: u32, index: u32) -> Result<Measure, Error> {
+    let (mut detail, mut length, mut opened) = (0, 0, 0);
+    // SAFETY: as in `measure_function`.
+    let number = unsafe {
+        library::yokberd_placed_measure_type(
+            types.as_ptr(),
+            types.len(),
+            places.as_ptr(),
+            places.len(),
+            flags,
+            pointer_size,
+            index,
+            &mut detail,
+            &mut length,
+            &mut opened,
+        )
+    };
+    answer(number, detail, Measure { length, opened })
 }
 
 /// The size of a type over places of any numbers.

@@ -1,6 +1,6 @@
 //! `TypeFormatter`: the API of the original over the proved library.
 use crate::text::{self, into_string, write_text};
-use crate::{boundary, BatchAnswer, Error, IdIndex, Printed, Sheet, TypeFormatterFlags, TypeIndex};
+use crate::{boundary, BatchAnswer, Error, IdIndex, Measure, Printed, Sheet, TypeFormatterFlags, TypeIndex};
 use std::fmt::Write;
 use std::ops::Range;
 
@@ -8,6 +8,9 @@ type Result<T> = std::result::Result<T, Error>;
 
 /// The longest text that a formatter gives, in bytes, where [`TypeFormatter::with_text_limit`] sets no other.
 pub const TEXT_LIMIT: usize = 1 << 20;
+
+/// The longest text that is measured, in bytes.
+pub const MEASURE_LIMIT: usize = (1 << 24) - 1;
 
 // How many records apart the places are that a formatter notes: so a look-up passes seven records at most.
 const STRIDE: u32 = 8;
@@ -82,7 +85,8 @@ impl<'a> TypeFormatter<'a> {
         TypeFormatter { types, ids, checked: check(types, ids), ptr_size, flags, text_limit: TEXT_LIMIT }
     }
 
-    /// The same formatter with another limit for the texts that it allocates; a longer text is refused with [`Error::NoRoom`].
+    /// The same formatter with another limit for the texts that it allocates; a longer text is refused with [`Error::NoRoom`]. The texts that are written
+    /// into a lent buffer, and the measures, have no such limit.
     ///
     /// A hostile stream can ask for a very long text, and for much work with each byte of it ([time](crate#time)). So a service that is sent streams from
     /// elsewhere sets a small limit.
@@ -113,6 +117,29 @@ impl<'a> TypeFormatter<'a> {
         boundary::format_function(self.types, &self.checked, out, self.flags.bits(), self.ptr_size.into(), name, function_type_index.0)
     }
 
+    /// How long the text of [`format_function`](Self::format_function) is, and how many indexes are opened for it, without writing it: to lay out a page,
+    /// or to lend [`format_function_into`](Self::format_function_into) just as many bytes as it needs.
+    ///
+    /// It does not depend on the text limit. It is refused exactly as the call with a buffer of [`MEASURE_LIMIT`] bytes is, and takes about as long: so over
+    /// streams from elsewhere, lend a small buffer in place of a measure ([time](crate#time)).
+    ///
+    /// ```
+    /// use yokberd::{Error, Measure, TypeFormatter, TypeFormatterFlags, TypeIndex};
+    ///
+    /// let types = std::fs::read("../crates/test_vectors/data/overloads-types.bin")?;
+    /// let formatter = TypeFormatter::new_from_parts(&types, &[], 8, TypeFormatterFlags::empty());
+    /// let measure = formatter.measure_function(b"advance", 0, TypeIndex(0x1001))?;
+    /// assert_eq!(measure, Measure { length: 19, opened: 4 }); // the procedure, its result, its argument list and float
+    /// let mut out = vec![0; measure.length];
+    /// assert_eq!(formatter.format_function_into(&mut out, b"advance", 0, TypeIndex(0x1001)), Ok(19));
+    /// assert_eq!(out, b"void advance(float)");
+    /// assert_eq!(formatter.format_function_into(&mut out[1..], b"advance", 0, TypeIndex(0x1001)), Err(Error::NoRoom));
+    /// # Ok::<(), Box<dyn std::error::Error>>(())
+    /// ```
+    pub fn measure_function(&self, name: &[u8], _module_index: usize, function_type_index: TypeIndex) -> Result<Measure> {
+        boundary::measure_function(self.types, &self.checked, self.flags.bits(), self.ptr_size.into(), name, function_type_index.0)
+    }
+
     /// Write out the text of [`format_function`](Self::format_function). Where the call is refused, nothing is written.
     pub fn emit_function(&self, w: &mut impl Write, name: &str, module_index: usize, function_type_index: TypeIndex) -> Result<()> {
         self.text(|out| self.format_function_into(out, name.as_bytes(), module_index, function_type_index), |text| write_text(w, text))?
@@ -134,6 +161,12 @@ impl<'a> TypeFormatter<'a> {
         boundary::format_id(self.types, self.ids, &self.checked, out, self.flags.bits(), self.ptr_size.into(), id_index.0)
     }
 
+    /// How long the text of [`format_id`](Self::format_id) is, and how many indexes are opened for it, in the way of
+    /// [`measure_function`](Self::measure_function).
+    pub fn measure_id(&self, _module_index: usize, id_index: IdIndex) -> Result<Measure> {
+        boundary::measure_id(self.types, self.ids, &self.checked, self.flags.bits(), self.ptr_size.into(), id_index.0)
+    }
+
     /// Write out the text of [`format_id`](Self::format_id). Where the call is refused, nothing is written.
     pub fn emit_id(&self, w: &mut impl Write, module_index: usize, id_index: IdIndex) -> Result<()> {
         self.text(|out| self.format_id_into(out, module_index, id_index), |text| write_text(w, text))?
@@ -152,6 +185,12 @@ impl<'a> TypeFormatter<'a> {
     /// [`format_type`](Self::format_type) into the start of a buffer, which is left as [`format_function_into`](Self::format_function_into) leaves it.
     pub fn format_type_into(&self, out: &mut [u8], _module_index: usize, index: TypeIndex) -> Result<usize> {
         boundary::format_type(self.types, &self.checked, out, self.flags.bits(), self.ptr_size.into(), index.0)
+    }
+
+    /// How long the text of [`format_type`](Self::format_type) is, and how many indexes are opened for it, in the way of
+    /// [`measure_function`](Self::measure_function).
+    pub fn measure_type(&self, _module_index: usize, index: TypeIndex) -> Result<Measure> {
+        boundary::measure_type(self.types, &self.checked, self.flags.bits(), self.ptr_size.into(), index.0)
     }
 
     /// Write out the text of [`format_type`](Self::format_type). Where the call is refused, nothing is written.

@@ -21,6 +21,8 @@
 //! # Ok::<(), std::io::Error>(())
 //! ```
 //!
+//! [`TypeFormatter::measure_id`] and its like say how long a text is and how many indexes are opened for it, without writing it: [`Measure`].
+//!
 //! A call takes at most 512 KiB of stack. A thread has 2 MiB where nothing else is said.
 //!
 //! # Time
@@ -40,7 +42,7 @@
 //!
 //! and what a caller can choose is the first factor: the length of the buffer, or [`TypeFormatter::with_text_limit`]. A sheet has the same bound for each
 //! line, with 4,096 bytes of text, and there a look-up passes up to a 1,024th of the stream's records. A call over places has it behind its check, with
-//! look-ups as above.
+//! look-ups as above. A measure has no buffer and no limit: there the first factor is [`MEASURE_LIMIT`].
 #![warn(missing_docs)]
 
 mod boundary;
@@ -54,11 +56,11 @@ mod places;
 mod sheet;
 mod text;
 
-pub use boundary::{BatchAnswer, Printed};
+pub use boundary::{BatchAnswer, Measure, Printed};
 pub use container::{read_stream, read_stream_into, stream_len, ContainerError, IDS_STREAM, TYPES_STREAM};
 pub use error::{Error, StreamKind};
 pub use flags::TypeFormatterFlags;
-pub use formatter::{TypeFormatter, STREAM_LIMIT, TEXT_LIMIT};
+pub use formatter::{TypeFormatter, MEASURE_LIMIT, STREAM_LIMIT, TEXT_LIMIT};
 pub use index::{IdIndex, TypeIndex};
 pub use pdb::{Pdb, PdbError};
 pub use places::{fill_places, fill_places_into, PlacedFormatter, PLACES_LIMIT};

@@ -1,7 +1,7 @@
-//! Record places kept beside the type stream, from run to run, and the four calls over them.
+//! Record places kept beside the type stream, from run to run, and the calls over them.
 use crate::formatter::record_limit;
 use crate::text::{self, into_string, write_text};
-use crate::{boundary, Error, IdIndex, TypeFormatterFlags, TypeIndex, TEXT_LIMIT};
+use crate::{boundary, Error, IdIndex, Measure, TypeFormatterFlags, TypeIndex, TEXT_LIMIT};
 use std::fmt::Write;
 
 type Result<T> = std::result::Result<T, Error>;
@@ -81,7 +81,7 @@ impl<'a> PlacedFormatter<'a> {
         PlacedFormatter { types, ids, places, ptr_size, flags, text_limit: TEXT_LIMIT }
     }
 
-    /// The same formatter with another limit for the texts that it allocates; a longer text is refused with [`Error::NoRoom`].
+    /// The same formatter with another limit for the texts that it allocates; a longer text is refused with [`Error::NoRoom`]. Measures have no such limit.
     pub const fn with_text_limit(self, text_limit: usize) -> Self {
         PlacedFormatter { text_limit, ..self }
     }
@@ -107,6 +107,25 @@ impl<'a> PlacedFormatter<'a> {
         boundary::placed_format_function(self.types, self.places, out, self.flags.bits(), self.ptr_size.into(), name, function_type_index.0)
     }
 
+    /// How long the text of [`format_function`](Self::format_function) is, and how many indexes are opened for it, without writing it. It is refused exactly
+    /// as the call with a buffer of [`MEASURE_LIMIT`](crate::MEASURE_LIMIT) bytes is, by [`Error::WrongPlace`] too, and does not depend on the text limit.
+    ///
+    /// ```
+    /// use yokberd::{fill_places, Error, Measure, PlacedFormatter, TypeFormatterFlags, TypeIndex};
+    ///
+    /// let types = std::fs::read("../crates/test_vectors/data/overloads-types.bin")?;
+    /// let places = fill_places(&types)?;
+    /// let formatter = PlacedFormatter::new(&types, &[], &places, 8, TypeFormatterFlags::NO_ARGUMENTS);
+    /// let measure = formatter.measure_function(b"advance", 0, TypeIndex(0x1001))?;
+    /// assert_eq!(measure, Measure { length: "void advance".len(), opened: 2 }); // the procedure and its result
+    /// let stale = PlacedFormatter::new(&types, &[], &[60], 8, TypeFormatterFlags::NO_ARGUMENTS);
+    /// assert_eq!(stale.measure_function(b"advance", 0, TypeIndex(0x1001)), Err(Error::WrongPlace(0)));
+    /// # Ok::<(), Box<dyn std::error::Error>>(())
+    /// ```
+    pub fn measure_function(&self, name: &[u8], _module_index: usize, function_type_index: TypeIndex) -> Result<Measure> {
+        boundary::placed_measure_function(self.types, self.places, self.flags.bits(), self.ptr_size.into(), name, function_type_index.0)
+    }
+
     /// Write out the text of [`format_function`](Self::format_function). Where the call is refused, nothing is written.
     pub fn emit_function(&self, w: &mut impl Write, name: &str, module_index: usize, function_type_index: TypeIndex) -> Result<()> {
         self.text(|out| self.format_function_into(out, name.as_bytes(), module_index, function_type_index), |text| write_text(w, text))?
@@ -127,6 +146,12 @@ impl<'a> PlacedFormatter<'a> {
         boundary::placed_format_id(self.types, self.ids, self.places, out, self.flags.bits(), self.ptr_size.into(), id_index.0)
     }
 
+    /// How long the text of [`format_id`](Self::format_id) is, and how many indexes are opened for it, in the way of
+    /// [`measure_function`](Self::measure_function).
+    pub fn measure_id(&self, _module_index: usize, id_index: IdIndex) -> Result<Measure> {
+        boundary::placed_measure_id(self.types, self.ids, self.places, self.flags.bits(), self.ptr_size.into(), id_index.0)
+    }
+
     /// Write out the text of [`format_id`](Self::format_id). Where the call is refused, nothing is written.
     pub fn emit_id(&self, w: &mut impl Write, module_index: usize, id_index: IdIndex) -> Result<()> {
         self.text(|out| self.format_id_into(out, module_index, id_index), |text| write_text(w, text))?
@@ -145,6 +170,12 @@ impl<'a> PlacedFormatter<'a> {
     /// [`format_type`](Self::format_type) into the start of a buffer, which is left as [`format_function_into`](Self::format_function_into) leaves it.
     pub fn format_type_into(&self, out: &mut [u8], _module_index: usize, index: TypeIndex) -> Result<usize> {
         boundary::placed_format_type(self.types, self.places, out, self.flags.bits(), self.ptr_size.into(), index.0)
+    }
+
+    /// How long the text of [`format_type`](Self::format_type) is, and how many indexes are opened for it, in the way of
+    /// [`measure_function`](Self::measure_function).
+    pub fn measure_type(&self, _module_index: usize, index: TypeIndex) -> Result<Measure> {
+        boundary::placed_measure_type(self.types, self.places, self.flags.bits(), self.ptr_size.into(), index.0)
     }
 
     /// Write out the text of [`format_type`](Self::format_type). Where the call is refused, nothing is written.
