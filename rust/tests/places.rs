@@ -3,7 +3,8 @@
 mod common;
 
 use common::library::{Number, Plain};
-use common::{all_calls, case_count, folder, make_hostile, random_streams_of, real_streams, record_places, settings, Call, Rng, Streams, FIRST};
+use common::{all_calls, case_count, command_len, command_name, command_number, folder, make_hostile, random_streams_of, real_streams};
+use common::{record_places, settings, Call, Rng, Streams, FIRST};
 use std::fs;
 use yokberd::{fill_places, fill_places_into, Error, PlacedFormatter, StreamKind, TypeFormatterFlags, PLACES_LIMIT, STREAM_LIMIT};
 
@@ -305,14 +306,14 @@ impl Case {
 
     // What a command that makes a line is answered.
     fn answer(&self, command: &[u8], flags: u32, pointer_size: u8) -> Result<Vec<u8>, Error> {
-        let index = number(command);
+        let index = command_number(command);
         let flags = TypeFormatterFlags::from_bits_retain(flags);
         let formatter = PlacedFormatter::new(&self.types, &self.ids, &self.places, pointer_size, flags).with_text_limit(ROOM);
         match command[0] {
             0x10 => formatter.format_type_bytes(0, index.into()),
             0x11 => formatter.get_type_size(0, index.into()).map(|size| size.to_string().into_bytes()),
             0x12 => formatter.format_id_bytes(0, index.into()),
-            _ => formatter.format_function_bytes(command[5..].split(|byte| *byte == 0).next().unwrap(), 0, index.into()),
+            _ => formatter.format_function_bytes(command_name(command), 0, index.into()),
         }
     }
 
@@ -323,7 +324,7 @@ impl Case {
         while let Some(kind) = rest.first() {
             let command = rest.get(..command_len(*kind));
             match command {
-                Some([0x01, ..]) => flags = number(rest),
+                Some([0x01, ..]) => flags = command_number(rest),
                 Some([0x02, size]) => pointer_size = *size,
                 _ => {
                     count += 1;
@@ -347,21 +348,6 @@ impl Case {
             filled.map_or_else(|error| format!("{len} {} {:#x} zeros\n", error.number(), error.detail()), |_| format!("{len} 0 0x0{entries}\n"))
         };
         self.lengths.iter().map(line).collect()
-    }
-}
-
-// The number behind a command.
-fn number(command: &[u8]) -> u32 {
-    u32::from_le_bytes(command[1..5].try_into().unwrap())
-}
-
-// How long a command is; an unknown one is cut wherever it ends.
-fn command_len(kind: u8) -> usize {
-    match kind {
-        0x01 | 0x10..=0x12 => 5,
-        0x02 => 2,
-        0x13 => 21,
-        _ => usize::MAX,
     }
 }
 

@@ -50,9 +50,11 @@ fn small_stack() {
             let formatter = TypeFormatter::new_from_parts(&types, &types, 8, TypeFormatterFlags::empty());
             let mut sheet = Sheet::new();
             sheet.type_text(TypeIndex(FIRST));
-            (formatter.format_type(0, TypeIndex(FIRST)), formatter.sheet_lines(&sheet))
+            (formatter.format_type(0, TypeIndex(FIRST)), formatter.measure_type(0, TypeIndex(FIRST)), formatter.sheet_lines(&sheet))
         };
-        let (text, lines) = thread::Builder::new().stack_size(600 << 10).spawn(asked).unwrap().join().unwrap();
-        assert_eq!(lines, format!("1 0 0x0 {}\n", text.unwrap()).into_bytes(), "{name}");
+        let (text, measure, lines) = thread::Builder::new().stack_size(600 << 10).spawn(asked).unwrap().join().unwrap();
+        let text = text.unwrap();
+        assert_eq!(measure.map(|measure| measure.length), Ok(text.len()), "{name}");
+        assert_eq!(lines, format!("1 0 0x0 {text}\n").into_bytes(), "{name}");
     }
 }

@@ -1,7 +1,7 @@
 //! The library's calls as C has them: the plain ones, each of which checks its streams, and those over streams that were checked once, with any numbers in
 //! place of what the check noted.
 use super::Call;
-use yokberd::Error;
+use yokberd::{Error, Measure};
 
 extern "C" {
     fn yokberd_format_function(
@@ -103,6 +103,80 @@ extern "C" {
         index: u32,
         detail: *mut u32,
         size: *mut u64,
+    ) -> u32;
+    fn yokberd_measure_function(
+        types: *const u8,
+        types_len: usize,
+        flags: u32,
+        pointer_size: u32,
+        name: *const u8,
+        name_len: usize,
+        index: u32,
+        detail: *mut u32,
+        length: *mut usize,
+        opened: *mut u64,
+    ) -> u32;
+    fn yokberd_measure_id(
+        types: *const u8,
+        types_len: usize,
+        ids: *const u8,
+        ids_len: usize,
+        flags: u32,
+        pointer_size: u32,
+        index: u32,
+        detail: *mut u32,
+        length: *mut usize,
+        opened: *mut u64,
+    ) -> u32;
+    fn yokberd_measure_type(
+        types: *const u8,
+        types_len: usize,
+        flags: u32,
+        pointer_size: u32,
+        index: u32,
+        detail: *mut u32,
+        length: *mut usize,
+        opened: *mut u64,
+    ) -> u32;
+    fn yokberd_checked_measure_function(
+        types: *const u8,
+        types_len: usize,
+        checked: *const u32,
+        checked_len: usize,
+        flags: u32,
+        pointer_size: u32,
+        name: *const u8,
+        name_len: usize,
+        index: u32,
+        detail: *mut u32,
+        length: *mut usize,
+        opened: *mut u64,
+    ) -> u32;
+    fn yokberd_checked_measure_id(
+        types: *const u8,
+        types_len: usize,
+        ids: *const u8,
+        ids_len: usize,
+        checked: *const u32,
+        checked_len: usize,
+        flags: u32,
+        pointer_size: u32,
+        index: u32,
+        detail: *mut u32,
+        length: *mut usize,
+        opened: *mut u64,
+    ) -> u32;
+    fn yokberd_checked_measure_type(
+        types: *const u8,
+        types_len: usize,
+        checked: *const u32,
+        checked_len: usize,
+        flags: u32,
+        pointer_size: u32,
+        index: u32,
+        detail: *mut u32,
+        length: *mut usize,
+        opened: *mut u64,
     ) -> u32;
     fn yokberd_format_ids(
         types: *const u8,
@@ -222,6 +296,11 @@ fn told(number: u32, detail: u32, value: u64) -> Number {
     }
 }
 
+fn told_measure(number: u32, detail: u32, length: usize, opened: u64) -> Result<Measure, Error> {
+    assert!(number == 0 || opened == 0, "indexes opened by a refused measure");
+    told(number, detail, length as u64).map(|_| Measure { length, opened })
+}
+
 impl Plain<'_> {
     /// A plain call.
     pub fn ask(&self, call: Call, out: &mut [u8]) -> Number {
@@ -245,6 +324,50 @@ impl Plain<'_> {
             };
             told(number, detail, text_len as u64)
         }
+    }
+
+    /// A plain measure, of a call that writes a text.
+    pub fn measure(&self, call: Call) -> Result<Measure, Error> {
+        let (types, types_len, ids, ids_len) = (self.types.as_ptr(), self.types.len(), self.ids.as_ptr(), self.ids.len());
+        let (flags, size) = (self.flags, self.pointer_size);
+        let (mut detail, mut length, mut opened) = (7, 7, 7);
+        let (detail_at, length_at, opened_at) = (&mut detail, &mut length, &mut opened);
+        // SAFETY: as in `ask`.
+        let number = unsafe {
+            match call {
+                Call::Function(name, index) => {
+                    let (name, name_len) = (name.as_ptr(), name.len());
+                    yokberd_measure_function(types, types_len, flags, size, name, name_len, index, detail_at, length_at, opened_at)
+                }
+                Call::Id(index) => yokberd_measure_id(types, types_len, ids, ids_len, flags, size, index, detail_at, length_at, opened_at),
+                Call::Type(index) => yokberd_measure_type(types, types_len, flags, size, index, detail_at, length_at, opened_at),
+                Call::Size(_) => panic!("a size call writes no text"),
+            }
+        };
+        told_measure(number, detail, length, opened)
+    }
+
+    /// The same over any numbers.
+    pub fn measure_checked(&self, checked: &[u32], call: Call) -> Result<Measure, Error> {
+        let (types, types_len, ids, ids_len) = (self.types.as_ptr(), self.types.len(), self.ids.as_ptr(), self.ids.len());
+        let (flags, size, places, count) = (self.flags, self.pointer_size, checked.as_ptr(), checked.len());
+        let (mut detail, mut length, mut opened) = (7, 7, 7);
+        let (detail_at, length_at, opened_at) = (&mut detail, &mut length, &mut opened);
+        // SAFETY: as in `ask`.
+        let number = unsafe {
+            match call {
+                Call::Function(name, index) => {
+                    let (name, name_len) = (name.as_ptr(), name.len());
+                    yokberd_checked_measure_function(types, types_len, places, count, flags, size, name, name_len, index, detail_at, length_at, opened_at)
+                }
+                Call::Id(index) => {
+                    yokberd_checked_measure_id(types, types_len, ids, ids_len, places, count, flags, size, index, detail_at, length_at, opened_at)
+                }
+                Call::Type(index) => yokberd_checked_measure_type(types, types_len, places, count, flags, size, index, detail_at, length_at, opened_at),
+                Call::Size(_) => panic!("a size call writes no text"),
+            }
+        };
+        told_measure(number, detail, length, opened)
     }
 
     /// The lines of a sheet behind the first `skip`, which checks its streams: whether lines are left, how many bytes and lines were printed.

@@ -428,7 +428,7 @@ pub fn chains(records: usize, entries: usize) -> (Vec<u8>, u32) {
 
 // Calls
 
-use yokberd::{Error, IdIndex, Sheet, TypeFormatter, TypeFormatterFlags, TypeIndex};
+use yokberd::{Error, IdIndex, Measure, Sheet, TypeFormatter, TypeFormatterFlags, TypeIndex};
 
 /// One call of a sheet.
 #[derive(Clone, Copy, Debug)]
@@ -454,6 +454,16 @@ impl Call {
         }
     }
 
+    /// How long the text is, and what is opened for it.
+    pub fn measure(self, formatter: &TypeFormatter) -> Result<Measure, Error> {
+        match self {
+            Call::Type(index) => formatter.measure_type(0, TypeIndex(index)),
+            Call::Id(index) => formatter.measure_id(0, IdIndex(index)),
+            Call::Function(name, index) => formatter.measure_function(name, 0, TypeIndex(index)),
+            Call::Size(_) => panic!("a size call writes no text"),
+        }
+    }
+
     pub fn add_to(self, sheet: &mut Sheet) {
         match self {
             Call::Type(index) => sheet.type_text(TypeIndex(index)),
@@ -475,6 +485,31 @@ pub fn all_calls(rng: &mut Rng, streams: &Streams) -> Vec<Call> {
         calls.extend([Call::Type(index), Call::Size(index), Call::Function(name, index)]);
     }
     calls
+}
+
+/// Those of `all_calls` that write a text.
+pub fn text_calls(rng: &mut Rng, streams: &Streams) -> Vec<Call> {
+    all_calls(rng, streams).into_iter().filter(|call| !matches!(call, Call::Size(_))).collect()
+}
+
+/// How long a command of a sheet is; an unknown one is cut wherever it ends.
+pub fn command_len(kind: u8) -> usize {
+    match kind {
+        0x01 | 0x10..=0x12 => 5,
+        0x02 => 2,
+        0x13 => 21,
+        _ => usize::MAX,
+    }
+}
+
+/// The number behind a command of a sheet.
+pub fn command_number(command: &[u8]) -> u32 {
+    u32::from_le_bytes(command[1..5].try_into().unwrap())
+}
+
+/// The name of a function in a command, which ends at a zero or with the command.
+pub fn command_name(command: &[u8]) -> &[u8] {
+    command[5..].split(|byte| *byte == 0).next().unwrap()
 }
 
 /// Flags and a pointer size, mostly good ones.
