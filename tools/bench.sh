@@ -1,6 +1,6 @@
 #!/bin/sh
-# Prints the time of the calls side by side with the original's, that of calls over kept places beside the plain ones, and their stack, as Markdown tables,
-# with the machine that they were taken on: rust/benches/calls. Some minutes.
+# Prints the time of the calls side by side with the original's, that of calls over kept places beside the plain ones, that of measures beside the calls
+# that write the text, and their stack, as Markdown tables, with the machine that they were taken on: rust/benches/calls. Some minutes.
 #
 #     rt staticlib yokberd && tools/bench.sh [BYTES]
 #

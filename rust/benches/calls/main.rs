@@ -1,5 +1,5 @@
-//! Time and stack of the calls, side by side with the original, and of calls over kept places beside the plain ones, as Markdown tables. `tools/bench.sh`
-//! runs it; docs/BENCHMARKS.md has the figures of one run.
+//! Time and stack of the calls, side by side with the original, of calls over kept places beside the plain ones, and of measures beside the calls that write
+//! the text, as Markdown tables. `tools/bench.sh` runs it; docs/BENCHMARKS.md has the figures of one run.
 //!
 //! A number as argument is the most bytes of a generated stream: with 0 there are the shipped streams only.
 #[path = "../../tests/original/asked.rs"]
@@ -9,6 +9,7 @@ mod common;
 #[path = "../../tests/original/error.rs"]
 mod error;
 mod generated;
+mod measured;
 #[path = "../../tests/original/pdb_stand_in.rs"]
 #[allow(dead_code)]
 mod pdb_stand_in;
@@ -54,6 +55,7 @@ fn main() {
     placed::print_single(&all);
     placed::print_check(&all);
     placed::print_openings(most);
+    measured::print(&all);
     texts::print();
     stack::print();
 }

@@ -234,8 +234,8 @@ pub fn spread(calls: &[Call], count: usize) -> Vec<Call> {
     (0..count).map(|part| calls[(2 * part + 1) * calls.len() / (2 * count)]).collect()
 }
 
-// Some of the calls, in no order: so many that one pass of the slower side is short.
-fn mixed(streams: &Streams, calls: &[Call]) -> Vec<Call> {
+/// Some of the calls, in no order: so many that one pass of the slower side is short.
+pub fn mixed(streams: &Streams, calls: &[Call]) -> Vec<Call> {
     let (formatter, mut out, tried) = (formatter(streams), vec![0; ROOM], spread(calls, 16));
     let one = seconds(each(&tried, |call| ours(&formatter, call, &mut out)).work) / tried.len() as f64;
     let mut mixed = spread(calls, ((PASS / one) as usize).clamp(16, MANY));

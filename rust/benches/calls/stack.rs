@@ -8,7 +8,7 @@ use yokberd::{fill_places, PlacedFormatter, Sheet, TypeFormatter, TypeFormatterF
 
 /// In a fresh process, which row of `deep_rows` to ask for and how: its number, a colon and one of `WAYS`; or `none`.
 pub const STACK_OF: &str = "YOKBERD_STACK_OF";
-const WAYS: [&str; 5] = ["plain", "checked", "sheet", "batch", "placed"];
+const WAYS: [&str; 6] = ["plain", "checked", "sheet", "batch", "placed", "measured"];
 
 // What no call may take.
 const MOST: u64 = 512;
@@ -33,6 +33,7 @@ pub fn after(row: &str) {
         call.add_to(&mut sheet);
         match way {
             "plain" => assert!(plain.ask(call, &mut out).is_ok()),
+            "measured" => assert!(plain.measure(call).is_ok()),
             "batch" => assert_eq!((plain.batch(Batch::Types, &[FIRST], &mut out, &mut answers), answers[0]), (1, 0)),
             "sheet" => assert!(formatter().print_sheet(&sheet, &mut out, 0).lines == 1),
             "placed" => {
@@ -52,7 +53,7 @@ fn in_a_fresh_process(row: &str) -> u64 {
 }
 
 pub fn print() {
-    let columns = ["A row of as many open indexes as there may be", "Single", "Checked once", "In a sheet", "In a plain batch", "Over places"];
+    let columns = ["A row of as many open indexes as there may be", "Single", "Checked once", "In a sheet", "In a plain batch", "Over places", "Measured"];
     head("Stack of one call, in KiB", &columns);
     let (none, mut most) = (in_a_fresh_process("none"), 0);
     for (at, (name, _)) in common::deep_rows().iter().enumerate() {
