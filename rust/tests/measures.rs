@@ -31,15 +31,31 @@ fn formatter<'a>(plain: &Plain<'a>) -> TypeFormatter<'a> {
     TypeFormatter::new_from_parts(plain.types, plain.ids, plain.pointer_size as u8, flags)
 }
 
-fn over_places(plain: &Plain, places: &[u32], call: Call) -> Answer {
+fn placed<'a>(plain: &Plain<'a>, places: &'a [u32]) -> PlacedFormatter<'a> {
     let flags = TypeFormatterFlags::from_bits_retain(plain.flags);
-    let formatter = PlacedFormatter::new(plain.types, plain.ids, places, plain.pointer_size as u8, flags);
+    PlacedFormatter::new(plain.types, plain.ids, places, plain.pointer_size as u8, flags)
+}
+
+fn over_places(plain: &Plain, places: &[u32], call: Call) -> Answer {
+    let formatter = placed(plain, places);
     match call {
         Call::Type(index) => formatter.measure_type(0, index.into()),
         Call::Id(index) => formatter.measure_id(0, index.into()),
         Call::Function(name, index) => formatter.measure_function(name, 0, index.into()),
         Call::Size(_) => panic!("a size call writes no text"),
     }
+}
+
+// The text in the start of a buffer.
+fn text_over_places(plain: &Plain, places: &[u32], call: Call, out: &mut [u8]) -> Number {
+    let formatter = placed(plain, places);
+    let length = match call {
+        Call::Type(index) => formatter.format_type_into(out, 0, index.into()),
+        Call::Id(index) => formatter.format_id_into(out, 0, index.into()),
+        Call::Function(name, index) => formatter.format_function_into(out, name, 0, index.into()),
+        Call::Size(_) => panic!("a size call writes no text"),
+    };
+    length.map(|length| length as u64)
 }
 
 // The measure, which is the same whichever way it is asked for.
@@ -242,21 +258,25 @@ fn bound() {
 
 // Given lines
 
-// A case of crates/test_measures, whose sheet and lines are given.
+// A case of crates/test_measures, whose sheet and lines are given; of some the calls are lent places.
 struct Case {
     types: Vec<u8>,
     ids: Vec<u8>,
     sheet: Vec<u8>,
+    places: Option<Vec<u32>>,
 }
 
 impl Case {
     fn read(name: &str) -> Self {
         // one that is not there has no bytes
         let bytes = |part: &str| fs::read(folder("crates/test_measures/data").join(format!("{name}-{part}.bin"))).unwrap_or_default();
-        Case { types: bytes("types"), ids: bytes("ids"), sheet: bytes("sheet") }
+        let numbers: Vec<u32> = bytes("places").chunks_exact(4).map(|number| u32::from_le_bytes(number.try_into().unwrap())).collect();
+        // how many entries are lent, then these
+        let places = numbers.split_first().map(|(count, entries)| entries[..*count as usize].to_vec());
+        Case { types: bytes("types"), ids: bytes("ids"), sheet: bytes("sheet"), places }
     }
 
-    // What a command is answered, in every way, and held against the text.
+    // What a command is answered, over the places or in every way, held against the text.
     fn answer(&self, command: &[u8], flags: u32, pointer_size: u32) -> Answer {
         let index = command_number(command);
         let call = match command[0] {
@@ -266,6 +286,11 @@ impl Case {
             _ => Call::Function(command_name(command).to_vec().leak(), index),
         };
         let plain = Plain { types: &self.types, ids: &self.ids, pointer_size, flags };
+        if let Some(places) = &self.places {
+            let measure = over_places(&plain, places, call);
+            held_to_text(|out| text_over_places(&plain, places, call, out), measure, false);
+            return measure;
+        }
         let measure = measured(&plain, &formatter(&plain), &fill_places(&self.types).unwrap_or_default(), call);
         held_to_text(|out| plain.ask(call, out), measure, false);
         measure
@@ -280,6 +305,8 @@ impl Case {
             match kind {
                 0x01 => flags = command_number(command),
                 0x02 => pointer_size = command[1].into(),
+                // a size has no measure
+                0x11 => {}
                 _ => {
                     count += 1;
                     lines += &line(count, self.answer(command, flags, pointer_size));
