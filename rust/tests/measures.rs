@@ -212,11 +212,14 @@ fn other_records() {
     ]);
     let measure = |call| length_and_opened(&types, &ids, TypeFormatterFlags::empty(), call);
     assert_eq!(measure(Call::Type(0x1000)), Ok(("int,int".len(), 3)));
+    assert_eq!(measure(Call::Type(0x1001)).map(|measure| measure.1), Ok(3), "itself, void, and its list, which is opened before it is found missing");
     assert_eq!(measure(Call::Type(0x1002)), Ok(("int,int*".len(), 4)));
     assert_eq!(measure(Call::Type(0x1003)), Ok(("int,int,<missing type 0x2000>,int,int".len(), 7)), "itself and twice the list");
     assert_eq!(measure(Call::Id(0x1000)), Ok((0, 0)), "an empty string");
     assert_eq!(measure(Call::Id(0x1001)), Ok(("void f(int,int)".len(), 5)), "the procedure, void, the list, int, int");
+    assert_eq!(measure(Call::Id(0x1002)), Ok(("void void f(int,int)::g(int,int)".len(), 10)), "those of the scope, and its own");
     assert_eq!(measure(Call::Id(0x1003)), Ok(("void loom::h(int,int)".len(), 5)), "a scope that is a string opens nothing");
+    assert_eq!(measure(Call::Id(0x1004)), Ok(("\"int\" \"<missing type 0x2000>\" \"int\"".len(), 2)), "int and int");
     assert_eq!(measure(Call::Id(0x1006)), Ok(("<missing type 0x1006>".len(), 0)));
     assert_eq!(length_and_opened(&types, &ids[..55], TypeFormatterFlags::empty(), Call::Id(0x1000)), Err(Error::Header(StreamKind::Ids)));
 }
