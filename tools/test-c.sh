@@ -124,7 +124,10 @@ cmp "$work/flags" "$work/named"
 sed -n 's/^version = "\(.*\)"$/#define YOKBERD_VERSION "\1"/p' rust/Cargo.toml >"$work/version"
 grep -qxFf "$work/version" c/yokberd.h
 sed -n 's/^#define YOKBERD_VERSION_[A-Z]* //p' c/yokberd.h | paste -sd. | sed 's/.*/#define YOKBERD_VERSION "&"/' | cmp - "$work/version"
-echo "test-c: the header names the library's 17 refusals, 12 cases of the container and 6 flags, and the version of the Rust crate"
+sed -n 's/^[a-z0-9_]* \(yokberd_[a-z_]*\)(.*/\1/p' c/yokberd.h | sort >"$work/declared"
+nm -g --defined-only "$archive" | awk '$3 ~ /^yokberd_/ {print $3}' | sort | cmp - "$work/declared"
+[ "$(wc -l <"$work/declared")" -eq 30 ]
+echo "test-c: the header declares the library's 30 functions and names its 17 refusals, 12 cases of the container and 6 flags, and the version of the Rust crate"
 
 "$cc" -std=c99 -Wall -Wextra -Wpedantic -Werror -O2 -Ic -o "$work/example" c/example.c "$archive"
 compare "$work/example"

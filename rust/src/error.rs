@@ -55,7 +55,7 @@ pub enum Error {
     TooManyOpen(u32),
     /// 14: the 33rd record of a chain of array levels, of size steps or of id scopes.
     ChainTooLong(u32),
-    /// 15: the text is longer than the buffer, or than the formatter's text limit.
+    /// 15: the text is longer than the buffer, or than the formatter's text limit; of a measure, than [`MEASURE_LIMIT`](crate::MEASURE_LIMIT).
     NoRoom,
     /// 16: an unknown or cut command. Only a line of a sheet has it.
     UnknownCommand(u8),
