@@ -53,17 +53,17 @@ for ids in - "$work/none"; do
     PYTHONDONTWRITEBYTECODE=1 python3 tools/msf.py make "$work/no-ids-$(basename "$ids").pdb" 512 - - "$pair-types.bin" - "$ids"
 done
 
-# document 01's small stream with one id. The texts are the document's (crates/names/data/README.md has the cases), their lengths are counted. What is
-# opened, by document 02, Note 4: 0x1000 itself and 0x74; 0x1001 itself, void, 0x1000, 0x74; 0x1002 itself and those of 0x1001; 0x1003 itself and char; 0x1004
-# itself and those of 0x1003; 0x1005, 0x1006, 0x1007 themselves, for an array's elements are not opened; 0x1009 itself and its target, which is opened before
-# it is found missing. 0x100a and id 0x1001 are missing and written by themselves: a mark replaces them. The id and the function open 0x1001, void, 0x1000,
-# 0x74, with NO_ARGUMENTS 0x1001 and void. Function type 0 is not opened.
+# document 01's small stream with one id. The texts are by its rules (crates/names/data/README.md has its cases; `const ` leads where a modifier is written by
+# itself), their lengths are counted. What is opened, by document 02, Note 4: 0x1000 itself and 0x74; 0x1001 itself, void, 0x1000, 0x74; 0x1002 itself and
+# those of 0x1001; 0x1003 itself and char; 0x1004 itself and those of 0x1003; 0x1005, 0x1006, 0x1007 themselves, for an array's elements are not opened; 0x1009
+# itself and its target, which is opened before it is found missing. 0x100a and id 0x1001 are missing and written by themselves: a mark replaces them. The id
+# and the function open 0x1001, void, 0x1000, 0x74, with NO_ARGUMENTS 0x1001 and void. Function type 0 is not opened.
 small=crates/names/data
 cat >"$work/expected-measure" <<'END'
 type 0x1000, flags 0x0: 3 bytes, 2 opened: int
 type 0x1001, flags 0x0: 11 bytes, 4 opened: void ()(int
 type 0x1002, flags 0x0: 13 bytes, 5 opened: void (*)(int)
-type 0x1003, flags 0x0: 10 bytes, 2 opened: char const
+type 0x1003, flags 0x0: 10 bytes, 2 opened: const char
 type 0x1004, flags 0x0: 17 bytes, 3 opened: char const* const
 type 0x1005, flags 0x0: 8 bytes, 1 opened: struct A
 type 0x1006, flags 0x0: 11 bytes, 1 opened: struct A[3]
