@@ -1,12 +1,14 @@
 //! Texts that are allocated: written by a call into a buffer of the thread, and copied out of it.
 use crate::Error;
+use std::borrow::Cow;
 use std::cell::Cell;
 use std::fmt::Write;
+use std::str;
 
 type Result<T> = std::result::Result<T, Error>;
 
 // Where a text does not fit, it is asked for again with a buffer so many times as long. The thread keeps one of this length at most: what is kept and lent
-// is filled with zeros by a refused call.
+// is filled with zeros by a refused call. To measure the text first takes longer, as a rule, and has no limit (docs/BENCHMARKS.md has figures).
 const FIRST_BUFFER: usize = 1 << 12;
 const GROWTH: usize = 4;
 const KEPT_BUFFER: usize = 1 << 16;
@@ -39,10 +41,15 @@ pub fn of<T>(limit: usize, call: impl Fn(&mut [u8]) -> Result<usize>, made_of: i
 
 /// The text. All that a `String` is made of is UTF-8: names of records as they are shown, and a name that is given as a `str`.
 pub fn into_string(text: &[u8]) -> String {
-    String::from_utf8_lossy(text).into_owned()
+    as_str(text).into_owned()
 }
 
 /// Writes the text out.
 pub fn write_text(w: &mut impl Write, text: &[u8]) -> Result<()> {
-    Ok(w.write_str(&String::from_utf8_lossy(text))?)
+    Ok(w.write_str(&as_str(text))?)
+}
+
+// Looked at as a whole first: that is faster than part by part.
+fn as_str(text: &[u8]) -> Cow<'_, str> {
+    str::from_utf8(text).map_or_else(|_| String::from_utf8_lossy(text), Cow::Borrowed)
 }
