@@ -4,9 +4,6 @@ use crate::side_by_side::{each, formatter, mixed, ours, plain, spread, Kind, FEW
 use crate::table::{head, micros, ratio, row, thousands};
 use crate::timing::in_turns;
 
-// What a measure may take of the time of the text call.
-const MOST: f64 = 1.0;
-
 // A measure has the length of the text, and is refused where the text call is. All texts of these streams are shorter than the buffer.
 fn compare(streams: &Streams, calls: &[Call]) {
     let (plain, checked, mut out) = (plain(streams), formatter(streams), [0; ROOM]);
@@ -26,9 +23,9 @@ fn times(streams: &Streams, kind: Kind) -> [f64; 4] {
     let (mut out, mut checked_out) = ([0; ROOM], [0; ROOM]);
     let contenders = vec![
         each(&few, |call| plain.ask(call, &mut out)),
-        each(&few, |call| plain.measure(call)),
+        each(&few, |call| plain.measure(call).map(|measure| measure.length as u64)),
         each(&many, |call| ours(&checked, call, &mut checked_out)),
-        each(&many, |call| call.measure(&checked)),
+        each(&many, |call| call.measure(&checked).map_or(0, |measure| measure.length as u64)),
     ];
     in_turns(contenders).try_into().unwrap()
 }
@@ -37,15 +34,21 @@ fn times(streams: &Streams, kind: Kind) -> [f64; 4] {
 pub fn print(all: &[Streams]) {
     let columns = ["Streams", "Records", "Call", "Single", "Its measure", "**Ratio**", "Checked once", "Its measure", "**Ratio**"];
     head("Measures beside the text calls, in microseconds", &columns);
-    let mut worst: f64 = 0.0;
+    let mut all_ratios = Vec::new();
     for streams in all {
         for kind in KINDS.into_iter().filter(|kind| *kind != Kind::Size) {
             let [single, measure, checked, checked_measure] = times(streams, kind);
             let (ratios, start) = ([measure / single, checked_measure / checked], [format!("`{}`", streams.name), thousands(streams.type_count.into())]);
             let single_cells = [kind.name().into(), micros(single), micros(measure), ratio(ratios[0])];
             row(&[&start[..], &single_cells, &[micros(checked), micros(checked_measure), ratio(ratios[1])]].concat());
-            worst = worst.max(ratios[0]).max(ratios[1]);
+            all_ratios.extend(ratios);
         }
     }
-    println!("\nThe most is {}, {} {MOST}.", ratio(worst), if worst <= MOST { "at most" } else { "MORE than" });
+    all_ratios.sort_by(f64::total_cmp);
+    println!(
+        "\nOf {} ratios the middle one is {} and the most {}.",
+        all_ratios.len(),
+        ratio(all_ratios[all_ratios.len() / 2]),
+        ratio(all_ratios[all_ratios.len() - 1])
+    );
 }
