@@ -45,7 +45,7 @@ use Rattle.checked_calls.specs.declared.calls.Checked.{Checked}
 use Rattle.checked_calls.specs.declared.calls.Checked.the-variants.{Good, Refused}
 use Rattle.checked_calls.specs.declared.calls.SizeAnswer.{SizeAnswer}
 use Rattle.checked_calls.specs.declared.calls.SizeAnswer.the-variants as given
-use Rattle.checked_calls.specs.Checks.{callOver, withTypes, withIds, andIds, typesBy, callBy, idsBy, performed, taken, functionOver, idOver, typeOver, sizeOver, ofSizeAnswer, unplaced}
+use Rattle.checked_calls.specs.Checks.{callOver, withTypes, withIds, andIds, typesBy, callBy, idsBy, performed, taken, functionWalk, idWalk, typeWalk, functionOver, idOver, typeOver, sizeOver, ofSizeAnswer, unplaced}
 
 -- The checks, one by one.
 module _ (t : StreamCheck) (flags size : ℕ) where
@@ -76,51 +76,51 @@ module _ (t : StreamCheck) (flags size : ℕ) where
     unfolding idsBy
     ids-refused e f = rw (← e, f) refl
 
--- A trace that was written from the start of the buffer is answered as the rules say; a refusal is a trace too.
-answered : {t : Trace Refusal} {buf b : List ℕ} {p q : Pen} {a : Answer} → p ≡ started (length buf) → Wrote (page buf p) t (page b q) → a ≡ answeredBy (readPen q .stop) (q .at)
-    → settled b a ≡ laid buf (within (length buf) t)
-answered {t} {buf} {b} {p} {q} {a} e w f =
-    let v : Wrote (page buf (started (length buf))) t (page b q) = rw (← e) w in
-    ap (settled b) f ∙ answer-is v
-
--- A text call's answer, by what its checks came to: `k` is what is walked over the call that they give.
+-- What is walked, by what the checks came to: `k` over the call that they give, or their refusal, which is a trace too.
 module _ (k : Call → Trace Refusal) {r s : Checked} (e : s ≡ r) where
-  good-is : {c : Call} {buf b : List ℕ} {p q : Pen} {a : Answer} → s ≡ Good c → Wrote (page buf p) (k c) (page b q) → p ≡ started (length buf) → a ≡ answeredBy (readPen q .stop) (q .at)
-      → settled b a ≡ laid buf (within (length buf) (performed r k))
-  good-is {c} f w g i = let h : r ≡ Good c = sym e ∙ f in rw h (answered g w i)
+  walked-good : (limit : ℕ) {c : Call} {buf b : List ℕ} {p q : Pen} → s ≡ Good c → Wrote (page buf p) (k c) (page b q) → p ≡ started limit → Wrote (page buf (started limit)) (performed r k) (page b q)
+  walked-good limit {c} f w g = let h : r ≡ Good c = sym e ∙ f in rw (h, ← g) w
 
-  refused-is : (buf : List ℕ) {f : Refusal} → s ≡ Refused f → settled buf (text.Refused f) ≡ laid buf (within (length buf) (performed r k))
-  refused-is buf {f} g = let h : r ≡ Refused f = sym e ∙ g in rw h (refused-laid buf f ∙ ap (laid buf) (sym (refusal-within (length buf) f)))
+  walked-refused : (limit : ℕ) {f : Refusal} {buf b : List ℕ} {p q : Pen} → s ≡ Refused f → Wrote (page buf p) (refusal f) (page b q) → p ≡ started limit → Wrote (page buf (started limit)) (performed r k) (page b q)
+  walked-refused limit {f} g w h = let i : r ≡ Refused f = sym e ∙ g in rw (i, ← h) w
 
 module _ (v : Near) (flags size : ℕ) (types : List ℕ) {r : Checked} where
   module _ (e : r ≡ callBy (checkIn (v .bounds) Types) flags size) (i : ℕ) where
-    pub type-is : {c : Call} {buf b : List ℕ} {p q : Pen} {a : Answer} → r ≡ Good c → Wrote (page buf p) (taken types (beside [] v) (byItself i) c) (page b q) → p ≡ started (length buf)
-        → a ≡ answeredBy (readPen q .stop) (q .at) → settled b a ≡ laid buf (typeOver types v flags size i (length buf))
-    unfolding typeOver
-    type-is = good-is (taken types (beside [] v) (byItself i)) e
+    pub type-good : (limit : ℕ) {c : Call} {buf b : List ℕ} {p q : Pen} → r ≡ Good c → Wrote (page buf p) (taken types (beside [] v) (byItself i) c) (page b q) → p ≡ started limit
+        → Wrote (page buf (started limit)) (typeWalk types v flags size i) (page b q)
+    unfolding typeWalk
+    type-good = walked-good (taken types (beside [] v) (byItself i)) e
 
-    pub type-refused : (buf : List ℕ) {f : Refusal} → r ≡ Refused f → settled buf (text.Refused f) ≡ laid buf (typeOver types v flags size i (length buf))
-    unfolding typeOver
-    type-refused buf = refused-is (taken types (beside [] v) (byItself i)) e buf
+    pub type-refused : (limit : ℕ) {f : Refusal} {buf b : List ℕ} {p q : Pen} → r ≡ Refused f → Wrote (page buf p) (refusal f) (page b q) → p ≡ started limit
+        → Wrote (page buf (started limit)) (typeWalk types v flags size i) (page b q)
+    unfolding typeWalk
+    type-refused = walked-refused (taken types (beside [] v) (byItself i)) e
 
-    pub function-is : (name : List ℕ) {c : Call} {buf b : List ℕ} {p q : Pen} {a : Answer} → r ≡ Good c → Wrote (page buf p) (taken types (beside [] v) (functionOf i name) c) (page b q)
-        → p ≡ started (length buf) → a ≡ answeredBy (readPen q .stop) (q .at) → settled b a ≡ laid buf (functionOver types v flags size name i (length buf))
-    unfolding functionOver
-    function-is name = good-is (taken types (beside [] v) (functionOf i name)) e
+    pub function-good : (name : List ℕ) (limit : ℕ) {c : Call} {buf b : List ℕ} {p q : Pen} → r ≡ Good c → Wrote (page buf p) (taken types (beside [] v) (functionOf i name) c) (page b q)
+        → p ≡ started limit → Wrote (page buf (started limit)) (functionWalk types v flags size name i) (page b q)
+    unfolding functionWalk
+    function-good name = walked-good (taken types (beside [] v) (functionOf i name)) e
 
-    pub function-refused : (name buf : List ℕ) {f : Refusal} → r ≡ Refused f → settled buf (text.Refused f) ≡ laid buf (functionOver types v flags size name i (length buf))
-    unfolding functionOver
-    function-refused name buf = refused-is (taken types (beside [] v) (functionOf i name)) e buf
+    pub function-refused : (name : List ℕ) (limit : ℕ) {f : Refusal} {buf b : List ℕ} {p q : Pen} → r ≡ Refused f → Wrote (page buf p) (refusal f) (page b q) → p ≡ started limit
+        → Wrote (page buf (started limit)) (functionWalk types v flags size name i) (page b q)
+    unfolding functionWalk
+    function-refused name = walked-refused (taken types (beside [] v) (functionOf i name)) e
 
   module _ (ids : List ℕ) (e : r ≡ idsBy (checkIn (v .bounds) Types) (checkIn (v .bounds) Ids) flags size) (i : ℕ) where
-    pub id-is : {c : Call} {buf b : List ℕ} {p q : Pen} {a : Answer} → r ≡ Good c → Wrote (page buf p) (taken types (beside ids v) (idOf i) c) (page b q) → p ≡ started (length buf)
-        → a ≡ answeredBy (readPen q .stop) (q .at) → settled b a ≡ laid buf (idOver types ids v flags size i (length buf))
-    unfolding idOver
-    id-is = good-is (taken types (beside ids v) (idOf i)) e
+    pub id-good : (limit : ℕ) {c : Call} {buf b : List ℕ} {p q : Pen} → r ≡ Good c → Wrote (page buf p) (taken types (beside ids v) (idOf i) c) (page b q) → p ≡ started limit
+        → Wrote (page buf (started limit)) (idWalk types ids v flags size i) (page b q)
+    unfolding idWalk
+    id-good = walked-good (taken types (beside ids v) (idOf i)) e
 
-    pub id-refused : (buf : List ℕ) {f : Refusal} → r ≡ Refused f → settled buf (text.Refused f) ≡ laid buf (idOver types ids v flags size i (length buf))
-    unfolding idOver
-    id-refused buf = refused-is (taken types (beside ids v) (idOf i)) e buf
+    pub id-refused : (limit : ℕ) {f : Refusal} {buf b : List ℕ} {p q : Pen} → r ≡ Refused f → Wrote (page buf p) (refusal f) (page b q) → p ≡ started limit
+        → Wrote (page buf (started limit)) (idWalk types ids v flags size i) (page b q)
+    unfolding idWalk
+    id-refused = walked-refused (taken types (beside ids v) (idOf i)) e
+
+-- A walk from the start of a buffer, up to its end, is answered as the rules say.
+pub text-is : {t : Trace Refusal} {buf b : List ℕ} {q : Pen} {a : Answer} → Wrote (page buf (started (length buf))) t (page b q) → a ≡ answeredBy (readPen q .stop) (q .at)
+    → settled b a ≡ laid buf (within (length buf) t)
+text-is {b = b} w f = ap (settled b) f ∙ answer-is w
 
 -- A checked call has passed no id of a chain: all 32 are left.
 abbrev chainOf : Checked → ℕ
@@ -248,15 +248,15 @@ module _ (types : List ℕ) (v : Near) (kept : KeptOf Types types v) where
   over-size size i = read-size strictly types (kept .check) size i (taken types (beside [] v) (sizeOf i 0)) (walk-types types v kept size (sizeOf i 0) 0)
 
   pub function-over : (name : List ℕ) (flags size i room : ℕ) → functionOver types v flags size name i room ≡ functionOutcome flags size types name i room
-  unfolding functionOver functionOutcome functionReading
+  unfolding functionOver functionWalk functionOutcome functionReading
   function-over name flags size i room = ap (within room) (sym (over-types types v kept size (functionOf i name) flags))
 
   pub id-over : (ids : List ℕ) → KeptOf Ids ids v → (flags size i room : ℕ) → idOver types ids v flags size i room ≡ idOutcome flags size types ids i room
-  unfolding idOver idOutcome idReading
+  unfolding idOver idWalk idOutcome idReading
   id-over ids k flags size i room = ap (within room) (sym (over-ids types v kept size (idOf i) ids k flags))
 
   pub type-over : (flags size i room : ℕ) → typeOver types v flags size i room ≡ typeOutcome flags size types i room
-  unfolding typeOver typeOutcome typeReading
+  unfolding typeOver typeWalk typeOutcome typeReading
   type-over flags size i room = ap (within room) (sym (over-types types v kept size (byItself i) flags))
 
   pub size-over : (size i : ℕ) → sizeOver types v size i ≡ sizeOutcome size types i

@@ -62,20 +62,27 @@ unplaced r k = performed r (λ c. refusal (WrongPlace k))
 abbrev pub taken : List ℕ → Lent → Task → Call → Trace Refusal
 taken types d x c = walked (settingsOf c) (tableIn types d) (holding c []) x
 
--- The answer of a function call over what was kept of a check, whatever that is: its flags and pointer size are checked, then what is kept of the types' check
--- is looked at, then the function is walked.
+-- What a function call reads over what was kept of a check, whatever that is: its flags and pointer size are checked, then what is kept of the types' check is
+-- looked at, then the function is walked. And its answer.
+unfoldable pub functionWalk : List ℕ → Near → ℕ → ℕ → List ℕ → ℕ → Trace Refusal
+functionWalk types v flags size name i = performed (callBy (checkIn (v .bounds) Types) flags size) (taken types (beside [] v) (functionOf i name))
+
 unfoldable pub functionOver : List ℕ → Near → ℕ → ℕ → List ℕ → ℕ → ℕ → Outcome
-functionOver types v flags size name i room =
-    within room (performed (callBy (checkIn (v .bounds) Types) flags size) (taken types (beside [] v) (functionOf i name)))
+functionOver types v flags size name i room = within room (functionWalk types v flags size name i)
 
--- The answer of an id call: the ids are looked at too.
+-- The same of an id call: the ids are looked at too.
+unfoldable pub idWalk : List ℕ → List ℕ → Near → ℕ → ℕ → ℕ → Trace Refusal
+idWalk types ids v flags size i = performed (idsBy (checkIn (v .bounds) Types) (checkIn (v .bounds) Ids) flags size) (taken types (beside ids v) (idOf i))
+
 unfoldable pub idOver : List ℕ → List ℕ → Near → ℕ → ℕ → ℕ → ℕ → Outcome
-idOver types ids v flags size i room =
-    within room (performed (idsBy (checkIn (v .bounds) Types) (checkIn (v .bounds) Ids) flags size) (taken types (beside ids v) (idOf i)))
+idOver types ids v flags size i room = within room (idWalk types ids v flags size i)
 
--- The answer of a type call: the checks of a function call, then the walk of the type by itself.
+-- The same of a type call: the checks of a function call, then the walk of the type by itself.
+unfoldable pub typeWalk : List ℕ → Near → ℕ → ℕ → ℕ → Trace Refusal
+typeWalk types v flags size i = performed (callBy (checkIn (v .bounds) Types) flags size) (taken types (beside [] v) (byItself i))
+
 unfoldable pub typeOver : List ℕ → Near → ℕ → ℕ → ℕ → ℕ → Outcome
-typeOver types v flags size i room = within room (performed (callBy (checkIn (v .bounds) Types) flags size) (taken types (beside [] v) (byItself i)))
+typeOver types v flags size i room = within room (typeWalk types v flags size i)
 
 -- The answer of a size call, which takes no flags. Its walk writes one number.
 unfoldable pub sizeOver : List ℕ → Near → ℕ → ℕ → Size

@@ -7,8 +7,9 @@ ghost use Rattle.streams.specs.Bounds.{checkIn};
 ghost use Rattle.streams.specs.declared.refusal.StreamKind.the-variants.{Types, Ids};
 ghost use Rattle.rules.specs.Call.{within, sizeAnswer, ofSize};
 ghost use Rattle.rules.specs.Places.{near};
-ghost use Rattle.checked_calls.specs.Answers.{given, settled, laid};
-ghost use Rattle.checked_calls.specs.Checks.{typesBy, callBy, idsBy, functionOver, idOver, typeOver, sizeOver, ofSizeAnswer, unplaced};
+ghost use Rattle.pen.specs.Page.{page, Wrote};
+ghost use Rattle.checked_calls.specs.Answers.{given, settled, laid, started};
+ghost use Rattle.checked_calls.specs.Checks.{typesBy, callBy, idsBy, functionWalk, idWalk, typeWalk, functionOver, idOver, typeOver, sizeOver, ofSizeAnswer, unplaced};
 use crate::answer::Answer;
 use crate::answer::answer_of;
 use crate::answer::settle;
@@ -21,6 +22,7 @@ use context::flags::TypeFormatterFlags;
 use emit::emit_type_index;
 use id_writers::emit_function;
 use id_writers::emit_id;
+use pen::Pen;
 use queries::sizes::SizeRead;
 use queries::sizes::get_type_size;
 use streams::bounds::check_in;
@@ -91,7 +93,86 @@ pub fn check_id_call(bounds: &[u32], flags: u32, size: u32) -> Checked
     }
 }
 
-// The text of a function, by its name and type, at the start of the buffer. The buffer of a refused call holds what was written until then.
+// The walk of a function, by its name and type, from the start of a buffer and up to a limit: the pen that it leaves. A call that its checks refuse leaves a
+// refused pen.
+pub fn walk_function(
+    types: &[u8],
+    bounds: &[u32],
+    places: &[u32],
+    out: &mut [u8],
+    limit: usize,
+    flags: u32,
+    size: u32,
+    name: &[u8],
+    index: TypeIndex,
+) -> Pen
+    ensures { λ r. ⌜ Wrote (page (now (out .entry)) (started limit)) (functionWalk (now (types .entry)) (near (now (bounds .entry)) (now (places .entry))) flags size (now (name .entry)) (index .0)) (page (now (out .exit)) r) ⌝ }
+{
+    let c = start(limit);
+    match check_call(bounds, flags, size) {
+        Checked::Good(call) => {
+            emit_function(types, b"", bounds, places, out, c, call, name, index)
+        }
+        Checked::Refused(f) => pen::refuse(out, c, f),
+    }
+}
+
+// The walk of an id.
+pub fn walk_id(
+    types: &[u8],
+    ids: &[u8],
+    bounds: &[u32],
+    places: &[u32],
+    out: &mut [u8],
+    limit: usize,
+    flags: u32,
+    size: u32,
+    index: IdIndex,
+) -> Pen
+    ensures { λ r. ⌜ Wrote (page (now (out .entry)) (started limit)) (idWalk (now (types .entry)) (now (ids .entry)) (near (now (bounds .entry)) (now (places .entry))) flags size (index .0)) (page (now (out .exit)) r) ⌝ }
+{
+    let first = start(limit);
+    match check_id_call(bounds, flags, size) {
+        Checked::Good(call) => emit_id(types, ids, bounds, places, out, first, call, 32, index),
+        Checked::Refused(f) => pen::refuse(out, first, f),
+    }
+}
+
+// The walk of a type.
+pub fn walk_type(
+    types: &[u8],
+    bounds: &[u32],
+    places: &[u32],
+    out: &mut [u8],
+    limit: usize,
+    flags: u32,
+    size: u32,
+    index: TypeIndex,
+) -> Pen
+    ensures { λ r. ⌜ Wrote (page (now (out .entry)) (started limit)) (typeWalk (now (types .entry)) (near (now (bounds .entry)) (now (places .entry))) flags size (index .0)) (page (now (out .exit)) r) ⌝ }
+{
+    let a = start(limit);
+    match check_call(bounds, flags, size) {
+        Checked::Good(call) => {
+            let mut none = [0u64; 96];
+            emit_type_index(
+                types,
+                b"",
+                bounds,
+                places,
+                out,
+                a,
+                call,
+                &mut none,
+                96,
+                index,
+            )
+        }
+        Checked::Refused(f) => pen::refuse(out, a, f),
+    }
+}
+
+// The text of a function at the start of the buffer. The buffer of a refused call holds what was written until then.
 fn function_text(
     types: &[u8],
     bounds: &[u32],
@@ -104,14 +185,9 @@ fn function_text(
 ) -> Answer
     ensures { λ r. ⌜ settled (now (out .exit)) r ≡ laid (now (out .entry)) (functionOver (now (types .entry)) (near (now (bounds .entry)) (now (places .entry))) flags size (now (name .entry)) (index .0) (length (now (out .entry)))) ⌝ }
 {
-    match check_call(bounds, flags, size) {
-        Checked::Good(call) => {
-            let c = start(out.len());
-            let d = emit_function(types, b"", bounds, places, out, c, call, name, index);
-            answer_of(d)
-        }
-        Checked::Refused(f) => Answer::Refused(f),
-    }
+    let room = out.len();
+    let p = walk_function(types, bounds, places, out, room, flags, size, name, index);
+    answer_of(p)
 }
 
 // The text of an id.
@@ -127,14 +203,9 @@ pub fn id_text(
 ) -> Answer
     ensures { λ r. ⌜ settled (now (out .exit)) r ≡ laid (now (out .entry)) (idOver (now (types .entry)) (now (ids .entry)) (near (now (bounds .entry)) (now (places .entry))) flags size (index .0) (length (now (out .entry)))) ⌝ }
 {
-    match check_id_call(bounds, flags, size) {
-        Checked::Good(call) => {
-            let first = start(out.len());
-            let last = emit_id(types, ids, bounds, places, out, first, call, 32, index);
-            answer_of(last)
-        }
-        Checked::Refused(f) => Answer::Refused(f),
-    }
+    let room = out.len();
+    let p = walk_id(types, ids, bounds, places, out, room, flags, size, index);
+    answer_of(p)
 }
 
 // The text of a type.
@@ -149,26 +220,9 @@ pub fn type_text(
 ) -> Answer
     ensures { λ r. ⌜ settled (now (out .exit)) r ≡ laid (now (out .entry)) (typeOver (now (types .entry)) (near (now (bounds .entry)) (now (places .entry))) flags size (index .0) (length (now (out .entry)))) ⌝ }
 {
-    match check_call(bounds, flags, size) {
-        Checked::Good(call) => {
-            let mut none = [0u64; 96];
-            let a = start(out.len());
-            let b = emit_type_index(
-                types,
-                b"",
-                bounds,
-                places,
-                out,
-                a,
-                call,
-                &mut none,
-                96,
-                index,
-            );
-            answer_of(b)
-        }
-        Checked::Refused(f) => Answer::Refused(f),
-    }
+    let room = out.len();
+    let p = walk_type(types, bounds, places, out, room, flags, size, index);
+    answer_of(p)
 }
 
 // The call for a function: its text, or a refusal and zeros.

@@ -23,7 +23,7 @@ use Rattle.rules.proofs.Measuring.{measure-few}
 use Rattle.rules.proofs.Openings.{Few, few-walk}
 use Rattle.rules.proofs.PlacedCalls.{refusal-within}
 use Rattle.checked_calls.specs.Answers.{started}
-use Rattle.checked_calls.specs.Checks.{callBy, idsBy, performed, taken, functionOver, idOver, typeOver, unplaced}
+use Rattle.checked_calls.specs.Checks.{callBy, idsBy, performed, taken, functionWalk, idWalk, typeWalk, functionOver, idOver, typeOver, unplaced}
 use Rattle.checked_calls.specs.declared.calls.Checked.{Checked}
 use Rattle.checked_calls.specs.declared.calls.Checked.the-variants.{Good, Refused}
 use Rattle.checked_calls.proofs.AnswerLaws.{answered, Gave, gave}
@@ -55,51 +55,31 @@ module _ (buf : List ℕ) (t : Trace Refusal) (few : Few t) (b : List ℕ) (q : 
   measured-at (stop.Missing j) e g = rw (g .is ∙ ap (λ x. answered x (g .bytes) (g .many)) e) refl
   measured-at (stop.Refused f) e g = rw (g .is ∙ ap (λ x. answered x (g .bytes) (g .many)) e) refl
 
--- A measure, by what its checks came to: `k` is what is walked over the call that they give.
-module _ (k : Call → Trace Refusal) (few : (c : Call) → Few (k c)) {r s : Checked} (e : s ≡ r) where
-  good-is : {c : Call} {buf b : List ℕ} {p q : Pen} {a : Measure} → s ≡ Good c → Wrote (page buf p) (k c) (page b q) → p ≡ started longest
-      → a ≡ measuredBy (readPen q .stop) (q .at) (readPen q .opened) → ofMeasured a ≡ ofMeasure (measureOf (within longest (performed r k)))
-  good-is {c} {buf} {b} {p} {q} f w g i =
-      let h : r ≡ Good c = sym e ∙ f in
-      let v : Wrote (page buf (started longest)) (k c) (page b q) = rw (← g) w in
-      rw h (ap ofMeasured i ∙ measured-at buf (k c) (few c) b q (readPen q .stop) refl (gave buf longest (k c) b q v))
+-- What a call reads opens few: its walk, and a refusal of its checks, which opens nothing.
+few-performed : (types : List ℕ) (v : Near) (ids : List ℕ) (x : Task) (r : Checked) → Few (performed r (taken types (beside ids v) x))
+few-performed types v ids x (Good c) = few-walk (settingsOf c) (tableIn types (beside ids v)) (holding c []) x
+few-performed types v ids x (Refused f) = omega arith
 
-  refused-is : {f : Refusal} → s ≡ Refused f → ofMeasured (measure.Refused f) ≡ ofMeasure (measureOf (within longest (performed r k)))
-  unfolding ofMeasured ofMeasure measureOf
-  refused-is {f} g = let h : r ≡ Refused f = sym e ∙ g in rw (h, refusal-within longest f) refl
+measured-is : {t : Trace Refusal} → Few t → {buf b : List ℕ} {q : Pen} {a : Measure} → Wrote (page buf (started longest)) t (page b q)
+    → a ≡ measuredBy (readPen q .stop) (q .at) (readPen q .opened) → ofMeasured a ≡ ofMeasure (measureOf (within longest t))
+measured-is {t} few {buf} {b} {q} w e = ap ofMeasured e ∙ measured-at buf t few b q (readPen q .stop) refl (gave buf longest t b q w)
 
-few-taken : (types : List ℕ) (v : Near) (ids : List ℕ) (x : Task) (c : Call) → Few (taken types (beside ids v) x c)
-few-taken types v ids x c = few-walk (settingsOf c) (tableIn types (beside ids v)) (holding c []) x
+-- The three measures.
+module _ (v : Near) (flags size : ℕ) (types : List ℕ) where
+  pub function-is : (name : List ℕ) (i : ℕ) {buf b : List ℕ} {q : Pen} {a : Measure} → Wrote (page buf (started longest)) (functionWalk types v flags size name i) (page b q)
+      → a ≡ measuredBy (readPen q .stop) (q .at) (readPen q .opened) → ofMeasured a ≡ ofMeasure (measureOf (functionOver types v flags size name i longest))
+  unfolding functionOver functionWalk
+  function-is name i = measured-is (few-performed types v [] (functionOf i name) (callBy (checkIn (v .bounds) Types) flags size))
 
-module _ (v : Near) (flags size : ℕ) (types : List ℕ) {r : Checked} where
-  module _ (e : r ≡ callBy (checkIn (v .bounds) Types) flags size) (i : ℕ) where
-    pub type-is : {c : Call} {buf b : List ℕ} {p q : Pen} {a : Measure} → r ≡ Good c → Wrote (page buf p) (taken types (beside [] v) (byItself i) c) (page b q) → p ≡ started longest
-        → a ≡ measuredBy (readPen q .stop) (q .at) (readPen q .opened) → ofMeasured a ≡ ofMeasure (measureOf (typeOver types v flags size i longest))
-    unfolding typeOver
-    type-is = good-is (taken types (beside [] v) (byItself i)) (few-taken types v [] (byItself i)) e
+  pub id-is : (ids : List ℕ) (i : ℕ) {buf b : List ℕ} {q : Pen} {a : Measure} → Wrote (page buf (started longest)) (idWalk types ids v flags size i) (page b q)
+      → a ≡ measuredBy (readPen q .stop) (q .at) (readPen q .opened) → ofMeasured a ≡ ofMeasure (measureOf (idOver types ids v flags size i longest))
+  unfolding idOver idWalk
+  id-is ids i = measured-is (few-performed types v ids (idOf i) (idsBy (checkIn (v .bounds) Types) (checkIn (v .bounds) Ids) flags size))
 
-    pub type-refused : {f : Refusal} → r ≡ Refused f → ofMeasured (measure.Refused f) ≡ ofMeasure (measureOf (typeOver types v flags size i longest))
-    unfolding typeOver
-    type-refused = refused-is (taken types (beside [] v) (byItself i)) (few-taken types v [] (byItself i)) e
-
-    pub function-is : (name : List ℕ) {c : Call} {buf b : List ℕ} {p q : Pen} {a : Measure} → r ≡ Good c → Wrote (page buf p) (taken types (beside [] v) (functionOf i name) c) (page b q)
-        → p ≡ started longest → a ≡ measuredBy (readPen q .stop) (q .at) (readPen q .opened) → ofMeasured a ≡ ofMeasure (measureOf (functionOver types v flags size name i longest))
-    unfolding functionOver
-    function-is name = good-is (taken types (beside [] v) (functionOf i name)) (few-taken types v [] (functionOf i name)) e
-
-    pub function-refused : (name : List ℕ) {f : Refusal} → r ≡ Refused f → ofMeasured (measure.Refused f) ≡ ofMeasure (measureOf (functionOver types v flags size name i longest))
-    unfolding functionOver
-    function-refused name = refused-is (taken types (beside [] v) (functionOf i name)) (few-taken types v [] (functionOf i name)) e
-
-  module _ (ids : List ℕ) (e : r ≡ idsBy (checkIn (v .bounds) Types) (checkIn (v .bounds) Ids) flags size) (i : ℕ) where
-    pub id-is : {c : Call} {buf b : List ℕ} {p q : Pen} {a : Measure} → r ≡ Good c → Wrote (page buf p) (taken types (beside ids v) (idOf i) c) (page b q) → p ≡ started longest
-        → a ≡ measuredBy (readPen q .stop) (q .at) (readPen q .opened) → ofMeasured a ≡ ofMeasure (measureOf (idOver types ids v flags size i longest))
-    unfolding idOver
-    id-is = good-is (taken types (beside ids v) (idOf i)) (few-taken types v ids (idOf i)) e
-
-    pub id-refused : {f : Refusal} → r ≡ Refused f → ofMeasured (measure.Refused f) ≡ ofMeasure (measureOf (idOver types ids v flags size i longest))
-    unfolding idOver
-    id-refused = refused-is (taken types (beside ids v) (idOf i)) (few-taken types v ids (idOf i)) e
+  pub type-is : (i : ℕ) {buf b : List ℕ} {q : Pen} {a : Measure} → Wrote (page buf (started longest)) (typeWalk types v flags size i) (page b q)
+      → a ≡ measuredBy (readPen q .stop) (q .at) (readPen q .opened) → ofMeasured a ≡ ofMeasure (measureOf (typeOver types v flags size i longest))
+  unfolding typeOver typeWalk
+  type-is i = measured-is (few-performed types v [] (byItself i) (callBy (checkIn (v .bounds) Types) flags size))
 
 -- What a measure with a wrong place tells, by its checks.
 module _ (n : ℕ) {r : Checked} where

@@ -1,5 +1,5 @@
-// The three measures over what is kept of the stream checks: the writers of the text calls, with a pen that has a limit of its own and no buffer. They take any
-// numbers and any places.
+// The three measures over what is kept of the stream checks: the walks of the text calls, with a limit of their own and no buffer. They take any numbers and any
+// places.
 ghost use mathlib.Core.Path.{_≡_};
 ghost use Rattle.rules.specs.Call.{within};
 ghost use Rattle.rules.specs.Measure.{measureOf, longest, ofMeasure};
@@ -8,15 +8,12 @@ ghost use Rattle.checked_calls.specs.Checks.{functionOver, idOver, typeOver, un
 ghost use Rattle.measures.specs.Measures.{ofMeasured};
 use crate::answer::Measure;
 use crate::answer::measure_of;
-use checked_calls::answer::start;
 use checked_calls::calls::Checked;
-use checked_calls::calls::check_call;
-use checked_calls::calls::check_id_call;
+use checked_calls::calls::walk_function;
+use checked_calls::calls::walk_id;
+use checked_calls::calls::walk_type;
 use codeview::index::IdIndex;
 use codeview::index::TypeIndex;
-use emit::emit_type_index;
-use id_writers::emit_function;
-use id_writers::emit_id;
 use streams::refusal::Refusal;
 
 // No text that is measured is longer.
@@ -34,15 +31,19 @@ pub fn function_over(
 ) -> Measure
     ensures { λ r. ⌜ ofMeasured r ≡ ofMeasure (measureOf (functionOver (now (types .entry)) (near (now (bounds .entry)) (now (places .entry))) flags size (now (name .entry)) (index .0) longest)) ⌝ }
 {
-    match check_call(bounds, flags, size) {
-        Checked::Good(call) => {
-            let mut none = [0u8; 0];
-            let c = start(LONGEST);
-            let d = emit_function(types, b"", bounds, places, &mut none, c, call, name, index);
-            measure_of(d)
-        }
-        Checked::Refused(f) => Measure::Refused(f),
-    }
+    let mut none = [0u8; 0];
+    let p = walk_function(
+        types,
+        bounds,
+        places,
+        &mut none,
+        LONGEST,
+        flags,
+        size,
+        name,
+        index,
+    );
+    measure_of(p)
 }
 
 // The measure of an id.
@@ -57,25 +58,19 @@ pub fn id_over(
 ) -> Measure
     ensures { λ r. ⌜ ofMeasured r ≡ ofMeasure (measureOf (idOver (now (types .entry)) (now (ids .entry)) (near (now (bounds .entry)) (now (places .entry))) flags size (index .0) longest)) ⌝ }
 {
-    match check_id_call(bounds, flags, size) {
-        Checked::Good(call) => {
-            let mut none = [0u8; 0];
-            let first = start(LONGEST);
-            let last = emit_id(
-                types,
-                ids,
-                bounds,
-                places,
-                &mut none,
-                first,
-                call,
-                32,
-                index,
-            );
-            measure_of(last)
-        }
-        Checked::Refused(f) => Measure::Refused(f),
-    }
+    let mut none = [0u8; 0];
+    let p = walk_id(
+        types,
+        ids,
+        bounds,
+        places,
+        &mut none,
+        LONGEST,
+        flags,
+        size,
+        index,
+    );
+    measure_of(p)
 }
 
 // The measure of a type.
@@ -89,27 +84,18 @@ pub fn type_over(
 ) -> Measure
     ensures { λ r. ⌜ ofMeasured r ≡ ofMeasure (measureOf (typeOver (now (types .entry)) (near (now (bounds .entry)) (now (places .entry))) flags size (index .0) longest)) ⌝ }
 {
-    match check_call(bounds, flags, size) {
-        Checked::Good(call) => {
-            let mut none = [0u8; 0];
-            let mut seen = [0u64; 96];
-            let a = start(LONGEST);
-            let b = emit_type_index(
-                types,
-                b"",
-                bounds,
-                places,
-                &mut none,
-                a,
-                call,
-                &mut seen,
-                96,
-                index,
-            );
-            measure_of(b)
-        }
-        Checked::Refused(f) => Measure::Refused(f),
-    }
+    let mut none = [0u8; 0];
+    let p = walk_type(
+        types,
+        bounds,
+        places,
+        &mut none,
+        LONGEST,
+        flags,
+        size,
+        index,
+    );
+    measure_of(p)
 }
 
 // A measure with a wrong place: 17, where its checks are good.
