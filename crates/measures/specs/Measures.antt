@@ -9,7 +9,7 @@ use Rattle.measures.specs.declared.answer.Extent.{Extent}
 use Rattle.measures.specs.declared.answer.Measure.{Measure}
 use Rattle.measures.specs.declared.answer.Measure.the-variants.{Text, Refused}
 
--- "After a refusal both numbers are 0."
+-- After a refusal both numbers are 0 (docs/READINGS.md; the Note leaves it open).
 unfoldable pub ofMeasured : Measure → MeasureReport
 ofMeasured (Text e) = reportOf 0 0 (e .length) (e .opened)
 ofMeasured (Refused f) = reportOf (numberOf f) (detailOf f) 0 0
