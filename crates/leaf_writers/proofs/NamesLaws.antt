@@ -23,19 +23,11 @@ use Rattle.utf8.specs.Parts.{partAt, run}
 use Rattle.utf8.specs.declared.Part.{Part}
 use Rattle.utf8.proofs.Shown.{shown-nil, shown-empty}
 use Rattle.utf8.proofs.Laws.{part-inside, run-within, run-kept, run-behind}
-use Rattle.rules.specs.Text.{digit, functionName, primitiveName, missingMark, unimplementedMark}
+use Rattle.rules.specs.Text.{functionName, primitiveName, missingMark, unimplementedMark}
 use Rattle.rules.specs.Record.{nameAt}
 use Rattle.pen.specs.Page.{Page, PageRead, readPage, ink, Wrote, writing}
 use Rattle.pen.proofs.Laws.{ink-append, ink-nil, run-say}
 use Rattle.leaf_writers.specs.Marks.{markTrace}
-
-pub digit-small : (n : ℕ) → n < 10 → 48 + n ≡ digit n
-unfolding digit
-digit-small n h = simp (lt-ltb _ _ h)
-
-pub digit-large : (n : ℕ) → 10 ≤ n → 87 + n ≡ digit n
-unfolding digit
-digit-large n h = simp (le-ltb _ _ h)
 
 -- The cases of a refusal but 7 and 8.
 abbrev pub noMark : List ℕ

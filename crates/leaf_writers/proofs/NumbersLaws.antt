@@ -1,15 +1,27 @@
 -- Laws of numbers in digits, the last of which is written first. Assumes nothing.
-use Prim.Native.Nat.{ℕ, zero, suc, _-_, _/_, _%_, _≤_, _<_}
+use Prim.Native.Nat.{ℕ, zero, suc, _+_, _-_, _/_, _%_, _≤_, _<_}
 use mathlib.Core.Path.{_≡_, refl, ap, sym, _∙_}
 use mathlib.Core.List.{List, [], _∷_, _++_, append-assoc, append-nil}
+use mathlib.Core.Bool.{Bool, true, false}
 use lib.ListN.{length, take, drop, set, length-drop}
 use lib.Seq.{drop-length, set-split, drop-at, length-take-le, take-all}
+use lib.Dec.{ltb}
 use native.Mathlib.Nat.{mod-eq-of-lt}
 use native.Mathlib.Numerals.{add-one}
 use native.Mathlib.Omega.{arith}
-use borrow.Author.Tests.{lt-ltb, le-ltb}
+use borrow.Author.Tests.{lt-ltb, le-ltb, ltb-true, ltb-false}
+use Rattle.wire.specs.Field.{pick}
 use Rattle.rules.specs.Text.{digit, numeral}
 use Rattle.pen.specs.Page.{writing}
+
+-- A byte that is a digit on both sides of ten.
+pub digit-is : (n d : ℕ) → (n < 10 → d ≡ 48 + n) → (10 ≤ n → d ≡ 87 + n) → d ≡ digit n
+unfolding digit
+digit-is n d low high = by (ltb n 10) refl
+  where
+    by : (t : Bool) → ltb n 10 ≡ t → d ≡ pick t (48 + n) (87 + n)
+    by true e = low (ltb-true n 10 e)
+    by false e = high (ltb-false n 10 e)
 
 -- A byte and what stands behind it.
 placed : (buf : List ℕ) (a d : ℕ) → a < length buf → drop a (set buf a d) ≡ d ∷ drop (suc a) buf

@@ -6,14 +6,13 @@ ghost use Rattle.rules.specs.Text;
 ghost use Rattle.pen.specs.Page.{page, Wrote, writing};
 use pen::Pen;
 
+// From ten on a digit stands 39 further: that far is `a` from the byte behind `9`.
 fn digit(n: u64) -> u8
     requires { ⌜ n < 16 ⌝ }
     ensures { λ r. ⌜ r ≡ Text.digit n ⌝ }
 {
-    if n < 10 {
-        return 48 + n as u8;
-    }
-    87 + n as u8
+    let n = n as u8;
+    48 + n + n / 10 * 39
 }
 
 // The digits of a number to a base, at the end of a buffer, in at most so many as it has room for: where they start.
