@@ -40,8 +40,8 @@ extern "C" {
 
 #define YOKBERD_VERSION_MAJOR 0
 #define YOKBERD_VERSION_MINOR 6
-#define YOKBERD_VERSION_PATCH 0
-#define YOKBERD_VERSION "0.6.0"
+#define YOKBERD_VERSION_PATCH 1
+#define YOKBERD_VERSION "0.6.1"
 
 /* Flags, to be added up. Another bit is refused: YOKBERD_UNKNOWN_FLAGS. */
 #define YOKBERD_NO_FUNCTION_RETURN 0x01u        /* no result before the function's name */

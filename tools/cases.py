@@ -795,6 +795,19 @@ case("numbers", {
      T(0x101c, "int*"), S(0x101c, 0), F("f", 0x101d, "void f(int)"), T(0x101e, "struct C"), S(0x101f, 6), T(0x101f, "struct C"),
      F("f", 0x1020, "f(int)"), F("f", 0x1021, "static f(int)"), F("f", 0x1022, "static void f(int)"))
 
+# Document 02, Note 5: each of the sixteen digits by itself, as first and as last of two, and all in a row; decimal digits too.
+PAIRS = "1e 2d 3c 4b 5a 69 78 87 96 a5 b4 c3 d2 e1 f0"
+case("digits", {
+        0x1000: array(0x70, 1234567890), 0x1001: array(0x70, 987654321), 0x1002: array(0x70, 2), 0x1003: array(0x70, 3), 0x1004: array(0x70, 4),
+        0x1005: array(0x70, 5), 0x1006: array(0x70, 6), 0x1007: array(0x70, 7), 0x1008: array(0x70, 8), 0x1009: array(0x70, 9), 0x100a: array(0x70, 10),
+        0x100b: rec(0x89ab, u16(0)), 0x100c: rec(0xfedc, u16(0))}, {0x1000: string("s")},
+     *[I(number, f"<missing type 0x{digit}>") for number, digit in enumerate("0123456789abcdef")],
+     *[I(number, f"<missing type 0x{pair}>") for number, pair in zip(range(30, 241, 15), PAIRS.split())],
+     T(0x10fedcba, "<missing type 0x10fedcba>"), T(0x23456789, "<missing type 0x23456789>"),
+     T(0x100b, "<unimplemented type kind 0x89ab>"), T(0x100c, "<unimplemented type kind 0xfedc>"),
+     *[T(0x1000 + number, f"char[{digit}]") for number, digit in enumerate("23456789", 2)],
+     T(0x1000, "char[1234567890]"), T(0x1001, "char[987654321]"), T(0x100a, "char[10]"))
+
 # A stream that begins at another index than 0x1000, with bytes behind its records.
 case("first", stream({0x1800: pointer(0x1801), 0x1801: class_("C", 1), 0x1802: pointer(0x1000)}, first=0x1800) + b"behind",
      stream({0x3000: string("s"), 0x3001: function(0x3000, 0x1803, "f")}, first=0x3000),

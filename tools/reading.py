@@ -23,7 +23,7 @@ ALL_FLAGS = 63
 OPEN_LIMIT, CHAIN_LIMIT = 96, 32
 PLACE_STEP = 64                                    # of type records 0, 64, 128 and on a place is kept
 MEASURED = 16777215                                # a measure is refused as the text is with a buffer of so many bytes
-NOTES = 4                                          # so many Notes of document 02 are here
+NOTES = 5                                          # so many Notes of document 02 are here
 
 # code: name and byte size, by cvinfo.h and the Rust module
 PRIMITIVES = {
