@@ -1,33 +1,29 @@
--- The laws of numbers, marks and names. Assumes nothing.
-use Prim.Native.Nat.{ℕ, zero, suc, _+_, _-_, _/_, _%_, _<_, _≤_}
+-- The laws of marks and names. Assumes nothing.
+use Prim.Native.Nat.{ℕ, _+_, _-_, _<_, _≤_}
 use mathlib.Core.Path.{_≡_, refl, ap, sym, _∙_}
-use mathlib.Core.List.{List, [], _∷_, _++_}
+use mathlib.Core.List.{List, [], _∷_}
 use mathlib.Core.Bool.{Bool, true, false, _&&_}
 use lib.ListN.{length, take, drop, length-drop, drop-of-length-le}
 use lib.Seq.{take-all}
-use lib.Dec.{eqb, leb, ltb}
+use lib.Dec.{eqb, leb}
 use native.Mathlib.Omega.{arith}
-use borrow.Author.Tests.{eq-eqb, ne-eqb, lt-ltb, le-ltb, lt-leb, le-leb, leb-true}
+use borrow.Author.Tests.{leb-true}
 use Rattle.wire.specs.Field.{pick}
 use Rattle.wire.specs.Text.{bytes}
 use Rattle.wire.specs.declared.name.Name.{Name}
-use Rattle.streams.specs.Refusal.{numberOf, detailOf}
-use Rattle.streams.specs.declared.refusal.Refusal.{Refusal}
 use Rattle.primitives.specs.Primitive.{primitives, firstOf, empty, named}
 use Rattle.primitives.specs.declared.PrimitiveKind.{PrimitiveKind}
 use Rattle.primitives.specs.declared.KindName.{KindName}
 use Rattle.primitives.proofs.Table.{map-first}
-use Rattle.interpreter.specs.Trace.{tr, refused, count}
 use Rattle.utf8.specs.Utf8.{replacement, shown}
 use Rattle.utf8.specs.Parts.{partAt, run}
 use Rattle.utf8.specs.declared.Part.{Part}
 use Rattle.utf8.proofs.Shown.{shown-nil, shown-empty}
 use Rattle.utf8.proofs.Laws.{part-inside, run-within, run-kept, run-behind}
-use Rattle.rules.specs.Text.{functionName, primitiveName, missingMark, unimplementedMark}
+use Rattle.rules.specs.Text.{functionName, primitiveName}
 use Rattle.rules.specs.Record.{nameAt}
 use Rattle.pen.specs.Page.{Page, PageRead, readPage, ink, Wrote, writing}
 use Rattle.pen.proofs.Laws.{ink-append, ink-nil, run-say}
-use Rattle.leaf_writers.specs.Marks.{markTrace}
 
 -- The cases of a refusal but 7 and 8.
 abbrev pub noMark : List ℕ

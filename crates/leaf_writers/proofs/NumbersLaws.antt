@@ -7,7 +7,6 @@ use lib.ListN.{length, take, drop, set, length-drop}
 use lib.Seq.{drop-length, set-split, drop-at, length-take-le, take-all}
 use lib.Dec.{ltb}
 use native.Mathlib.Nat.{mod-eq-of-lt}
-use native.Mathlib.Numerals.{add-one}
 use native.Mathlib.Omega.{arith}
 use borrow.Author.Tests.{lt-ltb, le-ltb, ltb-true, ltb-false}
 use Rattle.wire.specs.Field.{pick}
