@@ -795,7 +795,7 @@ case("numbers", {
      T(0x101c, "int*"), S(0x101c, 0), F("f", 0x101d, "void f(int)"), T(0x101e, "struct C"), S(0x101f, 6), T(0x101f, "struct C"),
      F("f", 0x1020, "f(int)"), F("f", 0x1021, "static f(int)"), F("f", 0x1022, "static void f(int)"))
 
-# Document 02, Note 5: each of the sixteen digits by itself, as first and as last of two, and all in a row; decimal digits too.
+# Document 02, Note 5: each of the sixteen digits by itself, in pairs, and all in a row; decimal digits too.
 PAIRS = "1e 2d 3c 4b 5a 69 78 87 96 a5 b4 c3 d2 e1 f0"
 case("digits", {
         0x1000: array(0x70, 1234567890), 0x1001: array(0x70, 987654321), 0x1002: array(0x70, 2), 0x1003: array(0x70, 3), 0x1004: array(0x70, 4),
