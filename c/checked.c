@@ -11,7 +11,7 @@
 
 #include "yokberd.h"
 
-enum { ROOM = 600, HEADER = 56, SETTINGS = 7, COMMANDS = 60, PAGE = 9000 };
+enum { ROOM = 600, HEADER = 56, SETTINGS = 6, COMMANDS = 60, PAGE = 9000 };
 
 struct bytes {
     uint8_t *at;
@@ -32,9 +32,9 @@ struct answer {
 
 enum call { FUNCTION, ID, TYPE, SIZE, CALLS };
 
-static const uint32_t flags_of[SETTINGS] = {0, 0x17, 0x3f, 0, 0x57, 0x80, 0};
-static const uint32_t size_of[SETTINGS] = {8, 8, 4, 16, 8, 8, 3};
-static const size_t room_of[SETTINGS] = {ROOM, ROOM, 20, 0, ROOM, ROOM, ROOM};
+static const uint32_t flags_of[SETTINGS] = {0, 0x17, 0x3f, 0, 0x40, 0};
+static const uint32_t size_of[SETTINGS] = {8, 8, 4, 16, 8, 3};
+static const size_t room_of[SETTINGS] = {ROOM, ROOM, 20, 0, ROOM, ROOM};
 
 static uint64_t seed = 0x1003;
 

@@ -12,7 +12,7 @@
 
 #include "yokberd.h"
 
-enum { ROOM = 600, HEADER = 56, APART = 64, SETTINGS = 7, ROUNDS = 40 };
+enum { ROOM = 600, HEADER = 56, APART = 64, SETTINGS = 6, ROUNDS = 40 };
 
 struct bytes {
     uint8_t *at;
@@ -36,9 +36,9 @@ enum call { FUNCTION, ID, TYPE, SIZE, CALLS };
 /* How the places that are lent differ from the right ones. */
 enum way { RIGHT, MORE, FEWER, WRONG, FEWER_AND_WRONG, NOISE, WAYS };
 
-static const uint32_t flags_of[SETTINGS] = {0, 0x17, 0x3f, 0, 0x57, 0x200, 0};
-static const uint32_t size_of[SETTINGS] = {8, 8, 4, 16, 8, 8, 3};
-static const size_t room_of[SETTINGS] = {ROOM, ROOM, 20, 0, ROOM, ROOM, ROOM};
+static const uint32_t flags_of[SETTINGS] = {0, 0x17, 0x3f, 0, 0x200, 0};
+static const uint32_t size_of[SETTINGS] = {8, 8, 4, 16, 8, 3};
+static const size_t room_of[SETTINGS] = {ROOM, ROOM, 20, 0, ROOM, ROOM};
 
 static uint64_t seed = 0x1117;
 

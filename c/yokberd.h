@@ -39,18 +39,17 @@ extern "C" {
 #endif
 
 #define YOKBERD_VERSION_MAJOR 0
-#define YOKBERD_VERSION_MINOR 7
-#define YOKBERD_VERSION_PATCH 0
-#define YOKBERD_VERSION "0.7.0"
+#define YOKBERD_VERSION_MINOR 6
+#define YOKBERD_VERSION_PATCH 1
+#define YOKBERD_VERSION "0.6.1"
 
-/* Flags, to be added up; pdb-addr2line has all but the last. Another bit, from 0x80 up, is refused: YOKBERD_UNKNOWN_FLAGS. */
+/* Flags, to be added up. Another bit is refused: YOKBERD_UNKNOWN_FLAGS. */
 #define YOKBERD_NO_FUNCTION_RETURN 0x01u        /* no result before the function's name */
 #define YOKBERD_NO_MEMBER_FUNCTION_STATIC 0x02u /* no `static ` before a static method */
 #define YOKBERD_SPACE_AFTER_COMMA 0x04u         /* f(int, int) */
 #define YOKBERD_SPACE_BEFORE_POINTER 0x08u      /* int * */
 #define YOKBERD_NAME_ONLY 0x10u                 /* A, not struct A */
 #define YOKBERD_NO_ARGUMENTS 0x20u              /* no argument list */
-#define YOKBERD_SHOW_VOLATILE 0x40u             /* A volatile*, void f(int) const volatile */
 
 /* What pdb-addr2line takes where no flags are given. */
 #define YOKBERD_DEFAULT_FLAGS \

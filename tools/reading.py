@@ -11,22 +11,19 @@
     reading.py ids TYPES IDS      prints each id of a pair of streams with its text under flags 0
 
 It was made from the documents and from the texts of the Rust module that they name; where they leave a choice, it takes that of docs/READINGS.md. Of
-document 02 it has Notes 1 to 4 and 6. Nothing of the Rattle code or its definitions is used. Expected outputs are made by it, so it is kept simple rather
-than fast."""
+document 02 it has Notes 1 to 4. Nothing of the Rattle code or its definitions is used. Expected outputs are made by it, so it is kept simple rather than fast."""
 import functools
 import os
 import sys
-from collections import namedtuple
 
 sys.setrecursionlimit(20000)
 
 NO_FUNCTION_RETURN, NO_MEMBER_FUNCTION_STATIC, SPACE_AFTER_COMMA, SPACE_BEFORE_POINTER, NAME_ONLY, NO_ARGUMENTS = 1, 2, 4, 8, 16, 32
-SHOW_VOLATILE = 0x40                               # document 02, Note 6: the lowest bit that the Rust module leaves free
-ALL_FLAGS = 0x7f
+ALL_FLAGS = 63
 OPEN_LIMIT, CHAIN_LIMIT = 96, 32
 PLACE_STEP = 64                                    # of type records 0, 64, 128 and on a place is kept
 MEASURED = 16777215                                # a measure is refused as the text is with a buffer of so many bytes
-NOTES = 6                                          # so many Notes of document 02 are here
+NOTES = 5                                          # so many Notes of document 02 are here
 
 # code: name and byte size, by cvinfo.h and the Rust module
 PRIMITIVES = {
@@ -151,18 +148,8 @@ def shown(name):
     return b"".join(text)
 
 
-# What may stand in one place: of a modifier bits 0 and 1 of its attributes, of a pointer bits 10 and 9.
-Marks = namedtuple("Marks", "const volatile")
-UNMARKED = Marks(False, False)
-
-
-def bit(attributes, number):
-    return attributes >> number & 1 == 1
-
-
 def modifier(f):
-    target, attributes = f.number(4), f.number(2)
-    return Record("modifier", target=target, marks=Marks(bit(attributes, 0), bit(attributes, 1)))
+    return Record("modifier", target=f.number(4), const=f.number(2) & 1 == 1)
 
 
 def pointer(f):
@@ -173,7 +160,7 @@ def pointer(f):
     if mode in (2, 3):
         f.number(4)
         f.number(2)
-    return Record("pointer", target=target, mode=mode, marks=Marks(bit(attributes, 10), bit(attributes, 9)), size=attributes >> 13 & 63)
+    return Record("pointer", target=target, mode=mode, const=attributes >> 10 & 1 == 1, size=attributes >> 13 & 63)
 
 
 def procedure(f):
@@ -372,16 +359,6 @@ class Formatter:
     def has(self, flag):
         return self.flags & flag != 0
 
-    def words(self, marks):
-        """The words that are written for marks, in their order."""
-        return [b"const"] * marks.const + [b"volatile"] * (marks.volatile and self.has(SHOW_VOLATILE))
-
-    def leading(self, marks):
-        return b"".join(word + b" " for word in self.words(marks))
-
-    def closing(self, marks):
-        return b"".join(b" " + word for word in self.words(marks))
-
     # Sizes
 
     def full_size(self, index, record):
@@ -449,7 +426,7 @@ class Formatter:
 
     def type_inside(self, record, seen):
         if record.what == "primitive":
-            self.primitive(record, UNMARKED)
+            self.primitive(record, False)
         elif record.what in ("class", "enum", "named"):
             self.put((b"" if self.has(NAME_ONLY) else record.word + b" ") + record.name)
         elif record.what == "method":
@@ -465,7 +442,7 @@ class Formatter:
         elif record.what == "arguments":
             self.argument_list(record, False, seen)
         elif record.what == "pointer":
-            self.pointer(record, UNMARKED, seen)
+            self.pointer(record, False, seen)
         elif record.what == "array":
             self.array(record, seen)
         elif record.what == "modifier":
@@ -473,22 +450,23 @@ class Formatter:
         else:
             self.put(b"unhandled type /* 0x%x */" % record.kind)
 
-    def primitive(self, record, marks):
+    def primitive(self, record, const):
         if record.indirect:
-            self.put(record.name + self.closing(marks) + (b" *" if self.has(SPACE_BEFORE_POINTER) else b"*"))
+            self.put(record.name + (b" const" if const else b"") + (b" *" if self.has(SPACE_BEFORE_POINTER) else b"*"))
         else:
-            self.put(self.leading(marks) + record.name)
+            self.put((b"const " if const else b"") + record.name)
 
     def modifier(self, record, seen):
         mark = seen.mark()
         self.open(record.target, seen)
         target = self.types.read(record.target)
         if target.what == "pointer":
-            self.pointer(target, record.marks, seen)
+            self.pointer(target, record.const, seen)
         elif target.what == "primitive":
-            self.primitive(target, record.marks)
+            self.primitive(target, record.const)
         else:
-            self.put(self.leading(record.marks))
+            if record.const:
+                self.put(b"const ")
             self.type(target, seen)
         seen.back(mark)
 
@@ -533,17 +511,17 @@ class Formatter:
             self.put(b" ")
 
     def this_pointer(self, this, owner):
-        """Whether a this pointer leads to its class, and the marks of the modifier between them."""
+        """Whether a this pointer leads to its class, and whether that is const."""
         record = self.types.read(this)
         if record.what == "pointer":
             if record.target == owner:
-                return True, UNMARKED
+                return True, False
             target = self.types.read(record.target)
             if target.what == "modifier" and target.target == owner:
-                return True, target.marks
-        return False, UNMARKED
+                return True, target.const
+        return False, False
 
-    def method_arguments(self, record, may_be_marked, seen):
+    def method_arguments(self, record, may_be_const, seen):
         if self.has(NO_ARGUMENTS):
             return
         mark = seen.mark()
@@ -551,34 +529,34 @@ class Formatter:
         entries = self.types.read(record.arguments)
         if entries.what != "arguments":
             raise Refused(9, record.arguments)
-        known, marks = self.this_pointer(record.this, record.owner) if record.this != 0 else (True, UNMARKED)
+        known, const = self.this_pointer(record.this, record.owner) if record.this != 0 else (True, False)
         self.put(b"(")
         if not known:
             self.type_index(record.this, seen)
         self.argument_list(entries, not known, seen)
         self.put(b")")
-        if may_be_marked:
-            self.put(self.closing(marks))
+        if const and may_be_const:
+            self.put(b" const")
         seen.back(mark)
 
     # Pointers
 
-    def pointer(self, record, marks, seen):
-        """Goes down through pointers and their modifiers. A level: the pointer's marks, its target's, its mode. `marks` join the pointer's own."""
-        levels = [[Marks(record.marks.const or marks.const, record.marks.volatile or marks.volatile), UNMARKED, record.mode]]
+    def pointer(self, record, const, seen):
+        """Goes down through pointers and their modifiers. A level: whether the pointer is const, whether its target is, its mode."""
+        levels = [[record.const or const, False, record.mode]]
         mark = seen.mark()
         while True:
             index = record.target
             self.open(index, seen)
             target = self.types.read(index)
             if target.what == "modifier":
-                levels[-1][1] = target.marks
+                levels[-1][1] = target.const
                 index = target.target
                 self.open(index, seen)
                 target = self.types.read(index)
             if target.what != "pointer":
                 break
-            levels.append([target.marks, UNMARKED, target.mode])
+            levels.append([target.const, False, target.mode])
             record = target
         self.pointed(target, levels, seen)
         seen.back(mark)
@@ -606,19 +584,19 @@ class Formatter:
     def signs(self, levels, space_first, after_sign):
         """The signs of pointer levels, innermost first; `space_first` allows a space before the first of them."""
         first = True
-        for pointer_marks, target_marks, mode in reversed(levels):
-            for word in self.words(target_marks):
+        for pointer_const, target_const, mode in reversed(levels):
+            if target_const:
                 if not first or space_first:
                     self.put(b" ")
-                self.put(word)
+                self.put(b"const")
                 first = after_sign = False
             if self.has(SPACE_BEFORE_POINTER) and not after_sign and (not first or space_first):
                 self.put(b" ")
             first = False
             self.put(SIGNS[mode])
             after_sign = True
-            for word in self.words(pointer_marks):
-                self.put(b" " + word)
+            if pointer_const:
+                self.put(b" const")
                 after_sign = False
 
     # Functions and ids
@@ -937,8 +915,8 @@ def vectors(folder, name):
         for index in range(stream.first, stream.end):
             out.append(b"0x%x" % index + line(0, call(index))[1:])
 
-    others = NO_MEMBER_FUNCTION_STATIC | SPACE_AFTER_COMMA | SPACE_BEFORE_POINTER | NAME_ONLY
-    for flags in (0, NO_FUNCTION_RETURN | NO_ARGUMENTS, others, NO_FUNCTION_RETURN | NO_ARGUMENTS | others, SHOW_VOLATILE):
+    for flags in (0, NO_FUNCTION_RETURN | NO_ARGUMENTS,
+                  NO_MEMBER_FUNCTION_STATIC | SPACE_AFTER_COMMA | SPACE_BEFORE_POINTER | NAME_ONLY, ALL_FLAGS):
         section(b"ids flags 0x%x" % flags, all_ids, lambda index: format_id(types, ids, flags, 8, 4096, index))
         section(b"types flags 0x%x" % flags, all_types, lambda index: format_type(types, flags, 8, 4096, index))
         section(b"functions flags 0x%x" % flags, all_types, lambda index: format_function(types, flags, 8, 4096, b"f", index))

@@ -10,9 +10,9 @@
     sheets.py measures CRATE DIR...  the same for `test_measures`: copies the three files of each DIR, and its places.bin where there is one behind the number
                                      of its entries, and writes args and, from DIR/expected.txt, stdout. Then follow the cases that stand here
 
-The lines of `names` stand here beside their commands and were worked out by hand from document 01, those over no ids from document 02, Note 1, those of PLACES
-from Note 3 and of MEASURES from Note 4, and with the streams of VOLATILE from Note 6 too. The script also asks tools/reading.py, a reading of the documents in
-Python, for each whole sheet and stops where that answers otherwise."""
+The lines of `names` stand here beside their commands and were worked out by hand from document 01, those over no ids from document 02, Note 1, and those of
+PLACES from Note 3 and of MEASURES from Note 4. The script also asks tools/reading.py, a reading of the documents in Python, for each whole sheet and stops
+where that answers otherwise."""
 import os
 import sys
 
@@ -73,7 +73,7 @@ LINES = [
     ([named(b"", 0x74)], "16 0 0x0 ", "case 10: an empty text leaves the space before it"),
     ([named(b"sixteen_letters_", 0x1001)], "17 0 0x0 void sixteen_letters_(int)", "as case 8; the name ends by the width"),
     ([named(b"step\0behind", 0x1001)], "18 0 0x0 void step(int)", "case 8; what is behind the zero is not looked at"),
-    ([flags(0x200), type_(0x1007)], "19 1 0x200", "refusal 1"),
+    ([flags(0x40), type_(0x1007)], "19 1 0x40", "refusal 1"),
     ([size(0x1007)], "20 0 0x0 60", "case 4: a size takes no flags"),
     ([flags(0), pointer_size(5), size(0x1007)], "21 2 0x5", "refusal 2"),
     ([type_(0x1007)], "22 2 0x5", "refusal 2: the pointer size carries over"),
@@ -174,22 +174,6 @@ BORDERS = in_order(
 
 # 80 modifiers of 10 bytes, each of the next and the last of int: the second place is 56 + 640 = 696.
 STEPS = stream({**{0x1000 + n: modifier(0x1001 + n, 0) for n in range(79)}, 0x104f: modifier(0x74, 0)})
-
-# Document 02, Note 6: volatile marks, each record with its text under SHOW_VOLATILE, 0x40. The places of so few records are 56.
-VOLATILE = in_order(
-    (1, class_("A", 4)),                           # 0x1000 struct A
-    (1, modifier(0x1000, 2)),                      # 0x1001 volatile struct A
-    (1, modifier(0x1000, 3)),                      # 0x1002 const volatile struct A
-    (1, pointer(0x1001)),                          # 0x1003 struct A volatile*
-    (1, arguments(0x74)),                          # 0x1004 int
-    (1, method(3, 0x1000, 0x1003, 0x1004)),        # 0x1005 void ()(int); as a function it closes in ` volatile`
-    (1, pointer(0x74, const=True, volatile=True)),           # 0x1006 int* const volatile
-    (1, modifier(0x2000, 2)),                      # 0x1007 <missing type 0x2000>
-    (1, procedure(3, 0x1004)),                     # 0x1008 void ()(int
-    (1, modifier(0x1008, 2)),                      # 0x1009 volatile void ()(int
-    (1, pointer(0x1009)),                          # 0x100a void (volatile*)(int)
-    (1, pointer(0x100c)), (1, modifier(0x100b, 2)))          # 0x100b, 0x100c: a circle
-VOLATILE_IDS = stream({0x1000: member(0x1000, 0x1005, "go")})
 
 FOUR_CALLS = (type_(0x1000), size(0x1000), id_(0x1000), named(b"f", 0x1000))
 
@@ -366,34 +350,6 @@ PLACES = [
         ([size(0x103f)], "1 0 0x0 5", "bytes behind the record bytes are no record, though entry 1 is where they stand: 56 + 63 * 12 + 24"),
         ([type_(0x1040)], "2 0 0x0 <missing type 0x1040>"),
     ], ["1 0 0x0 56", "2 0 0x0 56"]),
-
-    # SHOW_VOLATILE in the calls that take places
-    ("volatile", VOLATILE, VOLATILE_IDS, [56], [
-        ([flags(0x40), type_(0x1001)], "1 0 0x0 volatile struct A"),
-        ([type_(0x1003)], "2 0 0x0 struct A volatile*"),
-        ([type_(0x1006)], "3 0 0x0 int* const volatile"),
-        ([type_(0x100a)], "4 0 0x0 void (volatile*)(int)"),
-        ([type_(0x1005)], "5 0 0x0 void ()(int)"),
-        ([named(b"go", 0x1005)], "6 0 0x0 void go(int) volatile"),
-        ([id_(0x1000)], "7 0 0x0 void struct A::go(int) volatile"),
-        ([type_(0x100b)], "8 12 0x100b"),
-        ([size(0x1002)], "9 0 0x0 4"),
-        ([flags(0x7f), type_(0x1003)], "10 0 0x0 A volatile *", "every flag"),
-        ([id_(0x1000)], "11 0 0x0 A::go"),
-        ([flags(0), type_(0x1001)], "12 0 0x0 struct A", "without the flag"),
-        ([type_(0x1003)], "13 0 0x0 struct A*"),
-        ([named(b"go", 0x1005)], "14 0 0x0 void go(int)"),
-        ([id_(0x1000)], "15 0 0x0 void struct A::go(int)"),
-        ([flags(0x80), type_(0x1003)], "16 1 0x80", "the next bit is none"),
-        ([flags(0xc0), named(b"go", 0x1005)], "17 1 0xc0", "the whole word"),
-        ([flags(0x40000040), id_(0x1000)], "18 1 0x40000040"),
-    ], ["1 0 0x0 56"]),
-    ("volatile-wrong", VOLATILE, VOLATILE_IDS, [57], [
-        ([flags(0x40), type_(0x1003)], "1 17 0x0"),
-        ([named(b"go", 0x1005)], "2 17 0x0"),
-        ([id_(0x1000)], "3 17 0x0"),
-        ([flags(0xc0), id_(0x1000)], "4 1 0xc0", "1 before 17"),
-    ], ["0 17 0x0 zeros"]),
 ]
 
 
@@ -554,37 +510,6 @@ def each(answer):
     """The same answer of all three calls."""
     return [([call], answer) for call in THREE_CALLS]
 
-
-# With places and without.
-VOLATILE_MEASURES = [
-    ([flags(0x40), type_(0x1001)], "0 0x0 17 2", "volatile struct A: itself, 0x1000"),
-    ([type_(0x1002)], "0 0x0 23 2", "const volatile struct A: itself, 0x1000"),
-    ([type_(0x1003)], "0 0x0 18 3", "struct A volatile*: itself, 0x1001, 0x1000"),
-    ([type_(0x1005)], "0 0x0 12 4", "void ()(int): itself, void, 0x1004, int"),
-    ([named(b"go", 0x1005)], "0 0x0 21 4", "void go(int) volatile: 0x1005, void, 0x1004, int"),
-    ([id_(0x1000)], "0 0x0 31 5", "void struct A::go(int) volatile: 0x1005, void, struct A, 0x1004, int"),
-    ([type_(0x1006)], "0 0x0 19 2", "int* const volatile: itself, int"),
-    ([type_(0x1007)], "0 0x0 21 2", "<missing type 0x2000>: itself, and its target before it is looked for"),
-    ([type_(0x100a)], "0 0x0 21 6", "void (volatile*)(int): itself, 0x1009, 0x1008, void, 0x1004, int"),
-    ([type_(0x100b)], "12 0x100b"),
-    ([flags(0x48), type_(0x1003)], "0 0x0 19 3", "struct A volatile *"),
-    ([flags(0x50), type_(0x1003)], "0 0x0 11 3", "A volatile*"),
-    ([flags(0x60), named(b"go", 0x1005)], "0 0x0 7 2", "void go: 0x1005, void"),
-    ([flags(0x7f), type_(0x1003)], "0 0x0 12 3", "A volatile *"),
-    ([id_(0x1000)], "0 0x0 5 2", "A::go: 0x1005, struct A"),
-    ([flags(0), type_(0x1001)], "0 0x0 8 2", "struct A"),
-    ([type_(0x1002)], "0 0x0 14 2", "const struct A"),
-    ([type_(0x1003)], "0 0x0 9 3", "struct A*"),
-    ([named(b"go", 0x1005)], "0 0x0 12 4", "void go(int)"),
-    ([id_(0x1000)], "0 0x0 22 5", "void struct A::go(int)"),
-    ([type_(0x1006)], "0 0x0 10 2", "int* const"),
-    ([type_(0x100a)], "0 0x0 13 6", "void (*)(int)"),
-    ([type_(0x100b)], "12 0x100b"),
-    ([flags(0x80), type_(0x1003)], "1 0x80", "the next bit is none"),
-    ([flags(0xc0), named(b"go", 0x1005)], "1 0xc0", "the whole word"),
-    ([flags(0x40000040), id_(0x1000)], "1 0x40000040"),
-    ([flags(0x40), pointer_size(5), type_(0x1003)], "2 0x5"),
-]
 
 # Cases: name, types, ids, lent places or None, commands with refusal, detail, length and openings of the one that has a line, and its text and what is opened.
 MEASURES = [
@@ -769,11 +694,7 @@ MEASURES = [
         ([type_(0x1002)], "0 0x0 13 5", "the ids are not looked at"),
     ]),
 
-    # SHOW_VOLATILE, 0x40: ` volatile` has 9 bytes; what is opened does not depend on it
-    ("volatile", VOLATILE, VOLATILE_IDS, None, VOLATILE_MEASURES),
-
     # with lent places. BORDERS has three: 56, 860 and 1664
-    ("lent-volatile", VOLATILE, VOLATILE_IDS, [56], VOLATILE_MEASURES),
     ("lent-right", BORDERS, stream({0x1000: function(0, 0x1082, "step")}), [56, 860, 1664], [
         ([type_(0x103f)], "0 0x0 8 1", "struct T"),
         ([type_(0x1001)], "0 0x0 8 2", "struct T: itself, 0x103f"),

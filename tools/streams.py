@@ -24,14 +24,11 @@ def rec(kind, fields=b""):
 
 
 def modifier(target, bits=1):
-    """Bit 0 is const, bit 1 volatile, bit 2 unaligned."""
     return rec(0x1001, u32(target) + u16(bits))
 
 
-def pointer(target, mode=0, const=False, size=8, volatile=False, more=0):
-    """`more` are further bits of the attributes."""
-    attributes = more | size << 13 | const << 10 | volatile << 9 | mode << 5 | 0xc
-    return rec(0x1002, u32(target) + u32(attributes) + (u32(0) + u16(0) if mode in (2, 3) else b""))
+def pointer(target, mode=0, const=False, size=8):
+    return rec(0x1002, u32(target) + u32(size << 13 | const << 10 | mode << 5 | 0xc) + (u32(0) + u16(0) if mode in (2, 3) else b""))
 
 
 def procedure(result, arguments, attributes=0):

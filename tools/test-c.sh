@@ -4,9 +4,8 @@
 # which names the ids of a .pdb file in batches, on the same pair inside such a file, which tools/msf.py makes, and on files without ids. Then c/checked.c on
 # all shipped pairs and damaged copies: calls over streams checked once against the plain ones, and over any numbers; and c/places.c on the same, longer
 # ones too: places filled, and calls over right, longer, short and wrong places. Then c/measure.c on document 01's small stream, against lines worked out by
-# hand, and on all shipped pairs: measures against the text calls. Then c/volatile.c on the register block of rust/examples/registers.cpp, against lines
-# worked out by hand, and on a file in which nothing is volatile. All once more under a sanitizer, and, where it is installed, under valgrind; and c/pdb.c once
-# more as yokberd.pc says that it is built.
+# hand, and on all shipped pairs: measures against the text calls. All once more under a sanitizer, and, where it is installed, under valgrind; and c/pdb.c
+# once more as yokberd.pc says that it is built.
 #
 #     tools/staticlib.sh && tools/test-c.sh
 #
@@ -80,20 +79,6 @@ function 0x0, flags 0x0: 4 bytes, 0 opened: step
 191 bytes in all
 END
 
-# the functions of rust/examples/registers.cpp with a volatile in them, without the flag and, by document 02, Note 6, with it
-cat >"$work/expected-volatile" <<'END'
-0x1002 Registers::stop()
-0x1002 Registers::stop() volatile
-0x1003 Registers::ready(int) const
-0x1003 Registers::ready(int) const volatile
-0x1004 run(Registers*)
-0x1004 run(Registers volatile*)
-0x1005 poll(unsigned int const*, void (**)(int))
-0x1005 poll(unsigned int const volatile*, void (* volatile*)(int))
-0x1006 tick(unsigned int* const&)
-0x1006 tick(unsigned int volatile* const volatile&)
-END
-
 compare() {
     "$@" "$pair-types.bin" "$pair-ids.bin" >"$work/printed"
     cmp "$work/printed" "$work/expected"
@@ -120,13 +105,6 @@ compare_measure() {
     done
 }
 
-compare_volatile() {
-    "$@" rust/examples/registers.pdb >"$work/printed"
-    cmp "$work/printed" "$work/expected-volatile"
-    "$@" rust/examples/reel.pdb >"$work/printed"
-    cmp "$work/printed" "$work/none"
-}
-
 # the header's numbers are those of the library
 sed -n '/pub fn number/,/pub fn detail/s/^ *Refusal::\([A-Za-z]*\).* => \([0-9]*\),$/\1 \2/p' crates/streams/src/refusal.rt |
     sed 's/\([a-z]\)\([A-Z]\)/\1_\2/g' | tr '[:lower:]' '[:upper:]' >"$work/numbers"
@@ -141,7 +119,7 @@ cmp "$work/numbers" "$work/named"
 sed -n 's/^ *pub const \([A-Z_]*\): TypeFormatterFlags = TypeFormatterFlags(0b\([01_]*\));$/\1 \2/p' crates/context/src/flags.rt |
     awk '{gsub("_", "", $2); n = 0; for (i = 1; i <= length($2); i++) n = 2 * n + substr($2, i, 1); printf "%s 0x%02x\n", $1, n}' >"$work/flags"
 sed -n 's/^#define YOKBERD_\([A-Z_]*\) \(0x[0-9a-f]*\)u.*/\1 \2/p' c/yokberd.h >"$work/named"
-[ "$(wc -l <"$work/flags")" -eq 7 ]
+[ "$(wc -l <"$work/flags")" -eq 6 ]
 cmp "$work/flags" "$work/named"
 sed -n 's/^version = "\(.*\)"$/#define YOKBERD_VERSION "\1"/p' rust/Cargo.toml >"$work/version"
 grep -qxFf "$work/version" c/yokberd.h
@@ -149,7 +127,7 @@ sed -n 's/^#define YOKBERD_VERSION_[A-Z]* //p' c/yokberd.h | paste -sd. | sed 's
 sed -n 's/^[a-z0-9_]* \(yokberd_[a-z_]*\)(.*/\1/p' c/yokberd.h | sort >"$work/declared"
 nm -g --defined-only "$archive" | awk '$3 ~ /^yokberd_/ {print $3}' | sort | cmp - "$work/declared"
 [ "$(wc -l <"$work/declared")" -eq 30 ]
-echo "test-c: the header declares the library's 30 functions and names its 17 refusals, 12 cases of the container and 7 flags, and the version of the Rust crate"
+echo "test-c: the header declares the library's 30 functions and names its 17 refusals, 12 cases of the container and 6 flags, and the version of the Rust crate"
 
 "$cc" -std=c99 -Wall -Wextra -Wpedantic -Werror -O2 -Ic -o "$work/example" c/example.c "$archive"
 compare "$work/example"
@@ -189,9 +167,6 @@ fi
     "$cc" -std=c99 -Wall -Wextra -Wpedantic -Werror -O2 -Ic -o "$work/measure" c/measure.c "$archive"
     compare_measure "$work/measure"
     echo "test-c: $(wc -l <"$work/expected-measure") lines of measures as expected; those of the shipped pairs as the text calls have them"
-    "$cc" -std=c99 -Wall -Wextra -Wpedantic -Werror -O2 -Ic -o "$work/volatile" c/volatile.c "$archive"
-    compare_volatile "$work/volatile"
-    echo "test-c: $(wc -l <"$work/expected-volatile") lines without and with SHOW_VOLATILE as expected"
     sanitized="$cc -std=c99 -g -fsanitize=address,undefined -fno-sanitize-recover=all -Ic"
     $sanitized -o "$work/sanitized" c/example.c "$archive"
     compare "$work/sanitized"
@@ -203,8 +178,6 @@ fi
     "$work/places-sanitized" $pairs >/dev/null
     $sanitized -o "$work/measure-sanitized" c/measure.c "$archive"
     compare_measure "$work/measure-sanitized"
-    $sanitized -o "$work/volatile-sanitized" c/volatile.c "$archive"
-    compare_volatile "$work/volatile-sanitized"
     echo "test-c: the same with the address and undefined behaviour sanitizers"
     if command -v valgrind >/dev/null; then
         compare valgrind -q --error-exitcode=1 --leak-check=full "$work/example"
@@ -212,7 +185,6 @@ fi
         valgrind -q --error-exitcode=1 --leak-check=full "$work/checked" $pairs >/dev/null
         valgrind -q --error-exitcode=1 --leak-check=full "$work/places" $pairs >/dev/null
         compare_measure valgrind -q --error-exitcode=1 --leak-check=full "$work/measure"
-        compare_volatile valgrind -q --error-exitcode=1 --leak-check=full "$work/volatile"
         echo "test-c: the same under valgrind"
     fi
 }

@@ -25,8 +25,6 @@ import reading
 
 ROOT = os.path.join(os.path.dirname(os.path.abspath(__file__)), "..")
 GUIDE = os.path.join(ROOT, "docs", "FROM-A-PDB.md")
-README = os.path.join(ROOT, "README.md")
-REGISTERS = os.path.join(ROOT, "rust", "examples", "registers.pdb")
 DEFAULT_FLAGS = 0x17
 TEXT_LIMIT = 1 << 20
 FUNCTION_KINDS = (0x1601, 0x1602)
@@ -245,8 +243,6 @@ def names(yokberd, path, pointer_size, step):
     calls = compare_texts(ids, lambda index: expected.id(DEFAULT_FLAGS, index), step, "id")
     calls += compare_texts(every, lambda index: expected.id(0, index), step, "id")
     calls += compare_texts(types, lambda index: expected.type(0x8, index), step, "type")
-    shown = by_index(printed(yokberd, "types", path, "--flags", "SPACE_BEFORE_POINTER,SHOW_VOLATILE"))
-    calls += compare_texts(shown, lambda index: expected.type(0x48, index), step, "type with SHOW_VOLATILE")
     sizes = by_index(printed(yokberd, "sizes", path))
     for index in list(sizes)[::step]:
         same(int(sizes[index]), expected.size(index), f"{path}: size of {index:#x}")
@@ -267,19 +263,6 @@ def functions_of(yokberd, path):
     texts = [expected.function(0, b"f<int,int>", indexes[0])[2], b"g"]
     same(one, b"0x%x  %s\n0x0  %s\n" % (indexes[0], *texts), "two functions")
     return len(indexes) + 2
-
-
-def registers(yokberd, path):
-    """The functions of rust/examples/registers.cpp with a volatile in them, without the flag and with it: by hand, from document 02, Note 6."""
-    plain = ["Registers::stop()", "Registers::ready(int) const", "run(Registers*)", "poll(unsigned int const*, void (**)(int))",
-             "tick(unsigned int* const&)", "start()"]
-    shown = ["Registers::stop() volatile", "Registers::ready(int) const volatile", "run(Registers volatile*)",
-             "poll(unsigned int const volatile*, void (* volatile*)(int))", "tick(unsigned int volatile* const volatile&)", "start()"]
-    flags = "NO_FUNCTION_RETURN,NO_MEMBER_FUNCTION_STATIC,SPACE_AFTER_COMMA,NAME_ONLY"
-    for words, texts in (((), plain), (("--flags", flags), plain), (("--flags", flags + ",SHOW_VOLATILE"), shown)):
-        got = by_index(printed(yokberd, "ids", path, *words))
-        same([text.decode() for text in got.values()], texts, f"{path}: {words}")
-    return 3 * len(plain)
 
 
 def unescaped(text):
@@ -428,7 +411,7 @@ def file_messages(folder, path):
 
 def use_messages(path):
     """Wrong uses: the words, standard input, the status, and what is said."""
-    flags = "NO_FUNCTION_RETURN, NO_MEMBER_FUNCTION_STATIC, SPACE_AFTER_COMMA, SPACE_BEFORE_POINTER, NAME_ONLY, NO_ARGUMENTS, SHOW_VOLATILE, or none"
+    flags = "NO_FUNCTION_RETURN, NO_MEMBER_FUNCTION_STATIC, SPACE_AFTER_COMMA, SPACE_BEFORE_POINTER, NAME_ONLY, NO_ARGUMENTS, or none"
     no_index = "no index; write it decimal or hexadecimal, as in 4097 or 0x1001"
     a_line = "no index; write one a line, decimal or hexadecimal, as 4097 or 0x1001"
     cases = [
@@ -588,9 +571,7 @@ def test(folder, yokberd, *drivers):
         name = os.path.basename(driver)
         print(f"test-pdb: {name}: {whole} reads of whole files as llvm-pdbutil has them")
         print(f"test-pdb: {name}: {damaged} reads of damaged copies and {again} in blocks of every size as tools/msf.py has them")
-    volatile = [path("registers.pdb"), REGISTERS]
-    calls = sum(names(yokberd, file, 4 if file == path("reel32.pdb") else 8, 1) for file in small + volatile) + names(yokberd, large, 8, 61)
-    calls += sum(registers(yokberd, file) for file in volatile)
+    calls = sum(names(yokberd, file, 4 if file == path("reel32.pdb") else 8, 1) for file in small) + names(yokberd, large, 8, 61)
     calls += functions_of(yokberd, small[0]) + forms(yokberd, folder, small[0])
     hard_names(yokberd, folder)
     sheets(yokberd, folder, small[0])
@@ -604,12 +585,10 @@ def test(folder, yokberd, *drivers):
     uses = told_uses(folder, help_and_version(yokberd), "--help")
     with open(GUIDE, encoding="utf-8") as f:
         steps = told_uses(folder, f.read(), "docs/FROM-A-PDB.md")
-    with open(README, encoding="utf-8") as f:
-        sections = f.read().split("\n## ")
-    told = [section for section in sections if section.startswith("Volatile\n")]
-    shown_uses = [told_uses(ROOT, section, "README.md") for section in sections[:1] + told]
-    same((uses >= 3, steps >= 3, shown_uses), (True, True, [1, 2]), "uses that were found")
-    print(f"test-pdb: a closed pipe, progress, {uses} uses of --help, {steps} of docs/FROM-A-PDB.md, the first of README.md and both of its \"Volatile\"")
+    with open(os.path.join(ROOT, "README.md"), encoding="utf-8") as f:
+        first = told_uses(ROOT, f.read().partition("\n## ")[0], "README.md")
+    same((uses >= 3, steps >= 3, first), (True, True, 1), "uses that were found")
+    print(f"test-pdb: a closed pipe, progress, {uses} uses of --help, {steps} of docs/FROM-A-PDB.md and the first of README.md")
 
 
 if __name__ == "__main__":

@@ -1,4 +1,4 @@
-//! Flags for a `TypeFormatter`: those of the original, with its names and its default, and one of our own.
+//! Flags for a `TypeFormatter`, with the names and the default of the original.
 use std::fmt;
 use std::ops::{BitAnd, BitOr, BitOrAssign, BitXor, BitXorAssign, Not, Sub};
 
@@ -10,7 +10,7 @@ use std::ops::{BitAnd, BitOr, BitOrAssign, BitXor, BitXorAssign, Not, Sub};
 /// let flags = TypeFormatterFlags::NO_ARGUMENTS | TypeFormatterFlags::NAME_ONLY;
 /// assert!(flags.contains(TypeFormatterFlags::NAME_ONLY));
 /// assert_eq!(flags.bits(), 0x30);
-/// assert_eq!(TypeFormatterFlags::from_bits(0x80), None);
+/// assert_eq!(TypeFormatterFlags::from_bits(0x40), None);
 /// assert_eq!(format!("{flags:?}"), "TypeFormatterFlags(NAME_ONLY | NO_ARGUMENTS)");
 /// ```
 #[derive(Clone, Copy, PartialEq, Eq, Hash)]
@@ -35,34 +35,14 @@ impl TypeFormatterFlags {
     /// Do not print a functions argument types.
     pub const NO_ARGUMENTS: Self = Self(0b100000);
 
-    /// Print what is volatile as such: `volatile` stands behind the place of `const`, for a type, a pointer and a method.
-    ///
-    /// pdb-addr2line has no such flag, and its default, which is [`default`](Self::default) here, is without it. Where nothing is volatile no text is another.
-    ///
-    /// ```
-    /// use yokberd::{IdIndex, Pdb, TypeFormatterFlags};
-    ///
-    /// // bool Registers::ready(int) const volatile; void run(volatile Registers*)
-    /// let pdb = Pdb::read(&std::fs::read("examples/registers.pdb")?)?;
-    /// let plain = pdb.formatter(TypeFormatterFlags::default());
-    /// assert_eq!(plain.format_id(0, IdIndex(0x1003))?, "Registers::ready(int) const");
-    /// assert_eq!(plain.format_id(0, IdIndex(0x1004))?, "run(Registers*)");
-    /// let shown = pdb.formatter(TypeFormatterFlags::default() | TypeFormatterFlags::SHOW_VOLATILE);
-    /// assert_eq!(shown.format_id(0, IdIndex(0x1003))?, "Registers::ready(int) const volatile");
-    /// assert_eq!(shown.format_id(0, IdIndex(0x1004))?, "run(Registers volatile*)");
-    /// # Ok::<(), Box<dyn std::error::Error>>(())
-    /// ```
-    pub const SHOW_VOLATILE: Self = Self(0b1000000);
-
     /// Each flag with its name.
-    pub const NAMES: [(&'static str, Self); 7] = [
+    pub const NAMES: [(&'static str, Self); 6] = [
         ("NO_FUNCTION_RETURN", Self::NO_FUNCTION_RETURN),
         ("NO_MEMBER_FUNCTION_STATIC", Self::NO_MEMBER_FUNCTION_STATIC),
         ("SPACE_AFTER_COMMA", Self::SPACE_AFTER_COMMA),
         ("SPACE_BEFORE_POINTER", Self::SPACE_BEFORE_POINTER),
         ("NAME_ONLY", Self::NAME_ONLY),
         ("NO_ARGUMENTS", Self::NO_ARGUMENTS),
-        ("SHOW_VOLATILE", Self::SHOW_VOLATILE),
     ];
 
     /// No flag.
@@ -72,7 +52,7 @@ impl TypeFormatterFlags {
 
     /// Every flag.
     pub const fn all() -> Self {
-        Self(0b1111111)
+        Self(0b111111)
     }
 
     /// The flags as a number.

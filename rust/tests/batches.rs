@@ -186,7 +186,7 @@ fn any_numbers() {
     let mut rng = Rng(0x23_03);
     for case in 0..case_count(100) {
         let streams = if case % 4 == 0 { real_streams().remove(rng.below(5)) } else { hostile_streams(&mut rng, case) };
-        let plain = Plain { types: &streams.types, ids: &streams.ids, pointer_size: 8, flags: rng.below(128) as u32 };
+        let plain = Plain { types: &streams.types, ids: &streams.ids, pointer_size: 8, flags: rng.below(64) as u32 };
         let mut checked = plain.checked(8);
         for number in checked.iter_mut().filter(|_| case % 3 == 0 || case % 7 == 1) {
             *number = rng.pick(&[0, 1, 56, 0x1000, rng.0 as u32, u32::MAX]);
@@ -206,7 +206,7 @@ fn any_numbers() {
 #[test]
 fn indexes_of_streams() {
     for streams in real_streams() {
-        let formatter = TypeFormatter::new_from_parts(&streams.types, &streams.ids, 3, TypeFormatterFlags::from_bits_retain(0x80));
+        let formatter = TypeFormatter::new_from_parts(&streams.types, &streams.ids, 3, TypeFormatterFlags::from_bits_retain(0x40));
         assert_eq!(formatter.type_indexes(), Ok(FIRST..FIRST + streams.type_count), "whatever the settings");
         assert_eq!(formatter.id_indexes(), Ok(FIRST..FIRST + streams.id_count));
         let cut = TypeFormatter::new_from_parts(&streams.types, &streams.ids[..55], 8, TypeFormatterFlags::empty());

@@ -4,7 +4,6 @@ mod common;
 
 use common::folder;
 use std::fs;
-use std::path::PathBuf;
 use std::process::{Command, Output};
 
 fn yokberd(words: &[&str]) -> Output {
@@ -64,56 +63,6 @@ fn statuses() {
     assert_eq!(status(&["ids", "--types", &types, "--ids", "/dev/null", "--index", "0x1001"]), (Some(0), false, 0), "a missing id");
     assert_eq!(status(&["ids", "--types", &ids, "--ids", "/dev/null", "--index", "0x1001"]), (Some(1), true, 1), "ids as types");
     assert_eq!(status(&["ids", "--types", &types, "--ids", &ids, "--pointer-size", "5"]), (Some(2), true, 1), "a bad pointer size");
-}
-
-// The functions of rust/examples/registers.cpp, by hand from document 02, Note 6: without the flag no volatile, with it each behind the place of const.
-#[test]
-fn shipped_pdb_with_volatile() {
-    let file = folder("rust/examples/registers.pdb").display().to_string();
-    let lines = |words: &[&str]| {
-        let done = yokberd(&[&["ids", &file], words].concat());
-        assert_eq!((done.status.code(), String::from_utf8(done.stderr).unwrap()), (Some(0), String::new()));
-        String::from_utf8(done.stdout).unwrap().lines().map(str::to_string).collect::<Vec<_>>()
-    };
-    let plain = [
-        "0x1002  Registers::stop()",
-        "0x1003  Registers::ready(int) const",
-        "0x1004  run(Registers*)",
-        "0x1005  poll(unsigned int const*, void (**)(int))",
-        "0x1006  tick(unsigned int* const&)",
-        "0x1007  start()",
-    ];
-    let flags = "NO_FUNCTION_RETURN,NO_MEMBER_FUNCTION_STATIC,SPACE_AFTER_COMMA,NAME_ONLY";
-    assert_eq!(lines(&[]), plain);
-    assert_eq!(lines(&["--flags", flags]), plain, "the default has no SHOW_VOLATILE");
-    let shown = [
-        "0x1002  Registers::stop() volatile",
-        "0x1003  Registers::ready(int) const volatile",
-        "0x1004  run(Registers volatile*)",
-        "0x1005  poll(unsigned int const volatile*, void (* volatile*)(int))",
-        "0x1006  tick(unsigned int volatile* const volatile&)",
-        "0x1007  start()",
-    ];
-    assert_eq!(lines(&["--flags", &format!("{flags},SHOW_VOLATILE")]), shown);
-    let all = [
-        "0x1002  void struct Registers::stop() volatile",
-        "0x1003  bool struct Registers::ready(int) const volatile",
-        "0x1004  void run(struct Registers volatile*)",
-        "0x1005  unsigned int poll(unsigned int const volatile*,void (* volatile*)(int))",
-        "0x1006  unsigned int volatile* tick(unsigned int volatile* const volatile&)",
-        "0x1007  int start()",
-    ];
-    assert_eq!(lines(&["--flags=SHOW_VOLATILE"]), all);
-}
-
-// The sheet of a call with the flag sets it: 0x50 with NAME_ONLY.
-#[test]
-fn sheet_with_the_flag() {
-    let file = folder("rust/examples/registers.pdb").display().to_string();
-    let sheet = PathBuf::from(env!("CARGO_TARGET_TMPDIR")).join("volatile-sheet.bin");
-    let done = yokberd(&["ids", &file, "--index", "0x1004", "--flags", "NAME_ONLY,SHOW_VOLATILE", "--sheet", &sheet.display().to_string()]);
-    assert_eq!((done.status.code(), done.stdout, done.stderr), (Some(0), Vec::new(), Vec::new()));
-    assert_eq!(fs::read(sheet).unwrap(), b"\x01\x50\0\0\0\x02\x08\x12\x04\x10\0\0");
 }
 
 // The functions of the program in docs/FROM-A-PDB.md, as it is written there, in the order of their ids. Their texts by hand: const behind its type, no results.

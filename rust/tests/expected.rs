@@ -38,8 +38,8 @@ fn small_stream_cases() {
 #[test]
 fn refusals_before_the_walk() {
     let types = small_stream();
-    let unknown = formatter(&types, &[], 0x80);
-    assert_eq!(unknown.format_type(0, TypeIndex(0x74)), Err(Error::UnknownFlags(0x80)));
+    let unknown = formatter(&types, &[], 0x40);
+    assert_eq!(unknown.format_type(0, TypeIndex(0x74)), Err(Error::UnknownFlags(0x40)));
     assert_eq!(unknown.get_type_size(0, TypeIndex(0x74)), Ok(4), "a size call takes no flags");
     let odd = TypeFormatter::new_from_parts(&types, &[], 3, TypeFormatterFlags::empty());
     assert_eq!(odd.get_type_size(0, TypeIndex(0x74)), Err(Error::PointerSize(3)));
@@ -82,7 +82,7 @@ fn no_ids_as_a_header_without_records() {
         let mut ids = common::stream(&[]);
         ids[8..12].copy_from_slice(&first.to_le_bytes());
         ids[12..16].copy_from_slice(&first.to_le_bytes());
-        for flags in 0..=0x80 {
+        for flags in 0..=0x40 {
             let (none, header) = (formatter(&types, &[], flags), formatter(&types, &ids, flags));
             assert_eq!(none.format_ids(&indexes), header.format_ids(&indexes), "first {first:#x} flags {flags:#x}");
             for index in indexes {
@@ -321,7 +321,9 @@ fn flags_of_the_original() {
     assert_eq!(flags, TypeFormatterFlags::NO_ARGUMENTS | TypeFormatterFlags::NAME_ONLY);
     assert_eq!(flags - TypeFormatterFlags::NAME_ONLY, TypeFormatterFlags::NO_ARGUMENTS);
     assert!(flags.intersects(TypeFormatterFlags::all()) && !flags.contains(TypeFormatterFlags::all()));
-    assert_eq!(TypeFormatterFlags::from_bits(0x3f), Some(TypeFormatterFlags::all() - TypeFormatterFlags::SHOW_VOLATILE));
+    assert_eq!(TypeFormatterFlags::from_bits(0x3f), Some(TypeFormatterFlags::all()));
+    assert_eq!(TypeFormatterFlags::from_bits(0x7f), None);
+    assert_eq!(TypeFormatterFlags::from_bits_truncate(0x7f), TypeFormatterFlags::all());
 }
 
 #[test]

@@ -125,7 +125,7 @@ fn shipped_streams() {
     for streams in real_streams() {
         held(&mut rng, &streams);
         let right = right_places(&streams.types).unwrap();
-        for (flags, pointer_size) in [(0, 8), (0x17, 8), (0x3f, 4), (0x28, 16), (0x40, 8), (0x7f, 4), (0x80, 8), (0x200, 8), (0, 3)] {
+        for (flags, pointer_size) in [(0, 8), (0x17, 8), (0x3f, 4), (0x28, 16), (0x200, 8), (0, 3)] {
             let plain = plain(&streams, flags, pointer_size);
             held_over(&plain, &all_calls(&mut rng, &streams), &right, &right, &[ROOM], &streams.name);
         }

@@ -51,7 +51,7 @@ use Rattle.checked_calls.specs.Checks.{call_over, with_types, with_ids, and_ids,
 module _ (t : StreamCheck) (flags size : ℕ) where
   pub call_known : {r : FlagsRead} {k : TypeFormatterFlags} → r ≡ known flags → r ≡ read.Known k → types_by t k size ≡ call_by t flags size
   unfolding known call_by flagged
-  call_known {r} {k} e f = by (ltb flags 128) (sym e ∙ f)
+  call_known {r} {k} e f = by (ltb flags 64) (sym e ∙ f)
     where
       by : (b : Bool) → pick b (read.Known (record { 0 = flags })) (read.Refused (UnknownFlags flags)) ≡ read.Known k
           → types_by t k size ≡ pick b (types_by t (record { 0 = flags }) size) (Refused (UnknownFlags flags))
@@ -60,7 +60,7 @@ module _ (t : StreamCheck) (flags size : ℕ) where
 
   pub call-unknown : {r : FlagsRead} {f : Refusal} → r ≡ known flags → r ≡ read.Refused f → Refused f ≡ call_by t flags size
   unfolding known call_by flagged
-  call-unknown {r} {f} e g = by (ltb flags 128) (sym e ∙ g)
+  call-unknown {r} {f} e g = by (ltb flags 64) (sym e ∙ g)
     where
       by : (b : Bool) → pick b (read.Known (record { 0 = flags })) (read.Refused (UnknownFlags flags)) ≡ read.Refused f
           → Refused f ≡ pick b (types_by t (record { 0 = flags }) size) (Refused (UnknownFlags flags))
@@ -137,7 +137,7 @@ module _ (t u : StreamCheck) (flags size : ℕ) where
 
   chain-none : chain_of (ids_by t u flags size) ≡ 0
   unfolding ids_by call_by types_by flagged sized
-  chain-none = no-chain (ltb flags 128) (eqb size 4 || (eqb size 8 || eqb size 16)) t u (record { 0 = flags }) (UnknownFlags flags) (PointerSize size)
+  chain-none = no-chain (ltb flags 64) (eqb size 4 || (eqb size 8 || eqb size 16)) t u (record { 0 = flags }) (UnknownFlags flags) (PointerSize size)
 
   pub all_left : {r : Checked} {c : Call} → r ≡ ids_by t u flags size → r ≡ Good c → c.chain + 32 ≡ 32
   all_left {r} {c} e f = let z : c.chain ≡ 0 = ap chain_of (sym f ∙ e) ∙ chain-none in omega arith
@@ -210,13 +210,13 @@ module _ (read : Settings → Table → Task → Trace Refusal) (types : List �
   read-types : ((t : Stream) → checked Types types ≡ stream.Good t → read (settings flags size) (table_of types t [] none) x ≡ k (over size flags k))
       → over_types read flags size types x ≡ performed (call_by c flags size) k
   unfolding over_types call_by types_by flagged sized
-  read-types h = rw e (with-flags size flags k (ltb flags 128) (eqb size 4 || (eqb size 8 || eqb size 16)) (checked Types types) (UnknownFlags flags) (PointerSize size) _ h)
+  read-types h = rw e (with-flags size flags k (ltb flags 64) (eqb size 4 || (eqb size 8 || eqb size 16)) (checked Types types) (UnknownFlags flags) (PointerSize size) _ h)
 
   read-ids : (ids : List ℕ) {d : StreamCheck} → d ≡ checked Ids ids
       → ((t u : Stream) → checked Types types ≡ stream.Good t → checked Ids ids ≡ stream.Good u → read (settings flags size) (table_of types t ids u) x ≡ k (over size flags k))
       → over_ids read flags size types ids x ≡ performed (ids_by c d flags size) k
   unfolding over_ids ids_by call_by types_by flagged sized
-  read-ids ids f h = rw (e, f) (with-ids size flags k (ltb flags 128) (eqb size 4 || (eqb size 8 || eqb size 16)) (checked Types types) (checked Ids ids) (UnknownFlags flags) (PointerSize size) _ h)
+  read-ids ids f h = rw (e, f) (with-ids size flags k (ltb flags 64) (eqb size 4 || (eqb size 8 || eqb size 16)) (checked Types types) (checked Ids ids) (UnknownFlags flags) (PointerSize size) _ h)
 
 read-size : (read : Settings → Table → Task → Trace Refusal) (types : List ℕ) {c : StreamCheck} → c ≡ checked Types types → (size i : ℕ) (k : Call → Trace Refusal)
     → ((t : Stream) → checked Types types ≡ stream.Good t → read (settings 0 size) (table_of types t [] none) (size_of i 0) ≡ k (over size 0 k))

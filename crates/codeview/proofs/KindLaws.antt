@@ -4,14 +4,13 @@ use native.Mathlib.Omega.{arith}
 use mathlib.Core.Path.{◌≡◌, refl, sym, ◌∙◌, ap}
 use mathlib.Core.Bool.{Bool, true, false}
 use mathlib.Core.List.{List}
-use lib.Dec.{eqb, leb}
+use lib.Dec.{leb}
 use borrow.Author.Tests.{ne_eqb}
 use Rattle.wire.specs.Field.{pick}
 use Rattle.primitives.specs.Primitive.{primitives, first_of}
 use Rattle.primitives.proofs.Table.{first-if}
 use Rattle.streams.specs.declared.refusal.Refusal.TheVariants.{Missing}
-use Rattle.codeview.specs.Record.{bit, type_index, pointer_mode, containing, member_class}
-use Rattle.codeview.specs.Kinds.{pointer_to}
+use Rattle.codeview.specs.Record.{pointer_mode, containing, member_class}
 use Rattle.codeview.specs.Read.{primitive_of}
 use Rattle.codeview.specs.declared.record.PointerMode.{PointerMode}
 use Rattle.codeview.specs.declared.record.PointerMode.TheVariants as mode
@@ -63,11 +62,3 @@ mode-plain (suc (suc zero)) h n b k z = absurd (n refl)
 mode-plain (suc (suc (suc zero))) h n b k z = absurd (n refl)
 mode-plain (suc (suc (suc (suc zero)))) h n b k z = refl
 mode-plain (suc (suc (suc (suc (suc m))))) h n b k z = absurd (omega arith)
-
--- A pointer, field by field: const by bit 10, volatile by bit 9.
-pub pointer-as : (underlying attributes m class : ℕ) (u : ℕ) (constant volatile : Bool) (x : PointerMode) → u ≡ underlying
-    → constant ≡ eqb (attributes / 1024 % 2) 1 → volatile ≡ eqb (attributes / 512 % 2) 1 → x ≡ pointer_mode m (λ x. x) mode.RValueReference
-    → Good (type.Pointer (record { underlying = type_index u; mode = x; constant = constant; volatile = volatile; size = attributes / 8192 % 64; class = type_index class }))
-    ≡ pointer_to underlying attributes m class
-unfolding pointer_to bit
-pointer-as underlying attributes m class u constant volatile x a b c d = rw (a, b, c, d)

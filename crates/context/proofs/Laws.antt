@@ -14,7 +14,6 @@ use native.Mathlib.Numerals.{add-one}
 use native.Mathlib.Omega.{arith}
 use borrow.Author.Tests.{eq-eqb, ne_eqb, lt-leb, le-leb, lt-ltb}
 use Rattle.interpreter.specs.Trace.{Key, key}
-use Rattle.rules.specs.Record.{Attributes, attributes}
 use Rattle.rules.specs.Text.{Level, level, over_pointee}
 use Rattle.codeview.specs.Record.{bit}
 use Rattle.codeview.specs.declared.record.PointerMode.{PointerMode}
@@ -26,7 +25,7 @@ use Rattle.streams.specs.declared.refusal.Refusal.TheVariants.{CircularTypeDefin
 use Rattle.pen.specs.Page.{read_pen, idle, gone, refused_pen, opened_pen}
 use Rattle.pen.proofs.Laws.{refused-alive}
 use Rattle.pen.specs.declared.Pen.{Pen}
-use Rattle.context.specs.Context.{intersects, key_of, keys_of, has_index, marks_byte, marks_at, mode_number, mode_at, level_byte, level_of, level_at, over_levels, sizes_of, pushed_dimension}
+use Rattle.context.specs.Context.{intersects, key_of, keys_of, has_index, flags_byte, mode_byte, mode_at, level_byte, level_of, level_at, over_levels, sizes_of, pushed_dimension}
 use Rattle.context.specs.Opening.{way_of, Leaves, leaves, opens_to}
 use Rattle.context.specs.declared.seen.Way.{Way}
 
@@ -149,51 +148,29 @@ room-is o k = by (dec_lt 0 o.left)
     by (yes e) = let m : length (drop o.left o.items) < 32 = simp length-drop (omega arith) in let z : o.left ≡ 0 → ⊥ = λ z. omega arith in simp (ne_eqb _ _ z, lt-leb 32 _ m)
     by (no e) = let m : 32 ≤ length (drop o.left o.items) = simp length-drop (omega arith) in let z : o.left ≡ 0 = omega arith in simp (eq-eqb _ _ z, le-leb 32 _ m)
 
--- marks are packed and taken apart again, whatever stands above them; so is a level
-marks-under : (k n : ℕ) → marks_at (k + 4 * n) ≡ marks_at k
-unfolding marks_at
-marks-under k n =
-    let a : (k + 4 * n) % 2 ≡ k % 2 = omega arith in
-    let h : (k + 4 * n) / 2 ≡ k / 2 + 2 * n = omega arith in
-    let b : (k / 2 + 2 * n) % 2 ≡ k / 2 % 2 = omega arith in
-    rw (a, h, b)
-
-marks-alone : (c v : Bool) → marks_at (marks_byte c v) ≡ attributes c v
-unfolding marks_at marks_byte
-marks-alone false false = refl
-marks-alone true false = refl
-marks-alone false true = refl
-marks-alone true true = refl
-
-marks-at : (c v : Bool) (n : ℕ) → marks_at (marks_byte c v + 4 * n) ≡ attributes c v
-marks-at c v n = marks-under (marks_byte c v) n ∙ marks-alone c v
-
-marks-low : (c v : Bool) → marks_byte c v < 4
-unfolding marks_byte
-marks-low false false = omega arith
-marks-low true false = omega arith
-marks-low false true = omega arith
-marks-low true true = omega arith
-
-mode-at : (m : PointerMode) → mode_at (mode_number m) ≡ m
-unfolding mode_at mode_number
-mode-at mode.Pointer = refl
-mode-at mode.LValueReference = refl
-mode-at mode.Member = refl
-mode-at mode.MemberFunction = refl
-mode-at mode.RValueReference = refl
-
-pub unpacked : (l : Level) → level_at (level_byte l) ≡ l
-unfolding level_at
-unpacked l =
-    let a : ℕ = marks_byte l.own.constant l.own.volatile in
-    let b : ℕ = marks_byte l.pointee.constant l.pointee.volatile in
-    let m : ℕ = mode_number l.mode in
-    let h : a < 4 = marks-low l.own.constant l.own.volatile in
-    let k : b < 4 = marks-low l.pointee.constant l.pointee.volatile in
-    let d : (a + 4 * (b + 4 * m)) / 4 ≡ b + 4 * m = omega arith in
-    let e : (a + 4 * (b + 4 * m)) / 16 ≡ m = omega arith in
-    rw (d, e, marks-at l.own.constant l.own.volatile (b + 4 * m), marks-at l.pointee.constant l.pointee.volatile m, mode-at l.mode)
+-- a level is packed and taken apart again
+pub unpacked : (c p : Bool) (m : PointerMode) → level_at (level_byte c p m) ≡ level c p m
+unfolding level_at flags_byte mode_byte mode_at
+unpacked false false mode.Pointer = refl
+unpacked false false mode.LValueReference = refl
+unpacked false false mode.Member = refl
+unpacked false false mode.MemberFunction = refl
+unpacked false false mode.RValueReference = refl
+unpacked false true mode.Pointer = refl
+unpacked false true mode.LValueReference = refl
+unpacked false true mode.Member = refl
+unpacked false true mode.MemberFunction = refl
+unpacked false true mode.RValueReference = refl
+unpacked true false mode.Pointer = refl
+unpacked true false mode.LValueReference = refl
+unpacked true false mode.Member = refl
+unpacked true false mode.MemberFunction = refl
+unpacked true false mode.RValueReference = refl
+unpacked true true mode.Pointer = refl
+unpacked true true mode.LValueReference = refl
+unpacked true true mode.Member = refl
+unpacked true true mode.MemberFunction = refl
+unpacked true true mode.RValueReference = refl
 
 -- a push of a level
 pub levels-push : (l : List ℕ) (n x : ℕ) (v : Level) → 0 < n → n ≤ length l → level_at x ≡ v
@@ -201,23 +178,23 @@ pub levels-push : (l : List ℕ) (n x : ℕ) (v : Level) → 0 < n → n ≤ len
 levels-push l n x v h k e = rw (drop-push l n x h k, ← e)
 
 -- a change of the newest level, and of none
-pub over-newest : (l : List ℕ) (n x : ℕ) (c : Attributes) → n < length l → level_at x ≡ level (level_at (get_or l n 0)).own c (level_at (get_or l n 0)).mode
+pub over-newest : (l : List ℕ) (n x : ℕ) (c : Bool) → n < length l → level_at x ≡ level (level_at (get_or l n 0)).constant c (level_at (get_or l n 0)).mode
     → map level_at (drop n (set l n x)) ≡ over_pointee c (map level_at (drop n l))
 unfolding over_pointee
 over-newest l n x c h e = rw (drop-set l n x h, drop-cons l n 0 h, add-one, e)
 
-pub over_none : (l : List ℕ) (n : ℕ) (c : Attributes) → length l ≤ n → map level_at (drop n l) ≡ over_pointee c (map level_at (drop n l))
+pub over_none : (l : List ℕ) (n : ℕ) (c : Bool) → length l ≤ n → map level_at (drop n l) ≡ over_pointee c (map level_at (drop n l))
 unfolding over_pointee
 over_none l n c h = rw (drop_of_length-le l h)
 
-pub over-read : (r : PtrAttributes) (b : ℕ) (c : Attributes) → level_of r ≡ level_at b → level (level_of r).own c r.mode ≡ level (level_at b).own c (level_at b).mode
-over-read r b c e = ap (λ (l : Level). level l.own c l.mode) e
+pub over-read : (r : PtrAttributes) (b : ℕ) (c : Bool) → level_of r ≡ level_at b → level r.constant c r.mode ≡ level (level_at b).constant c (level_at b).mode
+over-read r b c e = ap (λ (l : Level). level l.constant c l.mode) e
 
-pub over-is : (o : Levels) (x : ℕ) (c : Attributes) (r : PtrAttributes) → o.left < 96 → level_of r ≡ level_at (get_or o.items o.left 0) → x ≡ level_byte (level (level_of r).own c r.mode)
+pub over-is : (o : Levels) (x : ℕ) (c : Bool) (r : PtrAttributes) → o.left < 96 → level_of r ≡ level_at (get_or o.items o.left 0) → x ≡ level_byte r.constant c r.mode
     → record { items = set o.items o.left x; left = o.left } ≡ over_levels o c
 unfolding over_levels
 over-is o x c r h e k =
-    let m : x ≡ level_byte (level (level_at (get_or o.items o.left 0)).own c (level_at (get_or o.items o.left 0)).mode) = k ∙ ap (λ (l : Level). level_byte (level l.own c l.mode)) e in
+    let m : x ≡ level_byte (level_at (get_or o.items o.left 0)).constant c (level_at (get_or o.items o.left 0)).mode = k ∙ ap (λ (l : Level). level_byte l.constant c l.mode) e in
     simp (lt-ltb _ _ h) (rw m)
 
 -- the five modes
@@ -241,5 +218,5 @@ pub mode-fifth : (n : ℕ) → (n ≡ 0 → ⊥) → (n ≡ 1 → ⊥) → (n �
 unfolding mode_at
 mode-fifth n a b c d = rw (ne_eqb n 0 a, ne_eqb n 1 b, ne_eqb n 2 c, ne_eqb n 3 d)
 
-pub number-as : (m n : PointerMode) → m ≡ n → mode_number n ≡ mode_number m
-number-as m n e = rw e
+pub byte-as : (m n : PointerMode) → m ≡ n → mode_byte n ≡ mode_byte m
+byte-as m n e = rw e

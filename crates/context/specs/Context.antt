@@ -1,5 +1,5 @@
 -- What the values that are passed down stand for: settings, open keys, pointer levels, array levels.
-use Rattle.std.specs.Prelude.{ℕ, ◌+◌, ◌-◌, ◌*◌, ◌<◌, ◌/◌, ◌%◌, ◌≡◌, Bool, true, false, not, ◌||◌, List, [], ◌∷◌, map, drop, get_or, length, replicate, set, eqb, leb, ltb}
+use Rattle.std.specs.Prelude.{ℕ, ◌+◌, ◌-◌, ◌<◌, ◌/◌, ◌%◌, ◌≡◌, Bool, true, false, not, ◌||◌, List, [], ◌∷◌, map, drop, get_or, length, replicate, set, eqb, leb, ltb}
 use Rattle.std.specs.Int.Bits.{bit_and}
 use Rattle.wire.specs.Field.{pick}
 use Rattle.streams.specs.declared.refusal.Refusal.TheVariants.{UnknownFlags}
@@ -7,21 +7,18 @@ use Rattle.codeview.specs.declared.record.PointerMode.{PointerMode}
 use Rattle.codeview.specs.declared.record.PointerMode.TheVariants as mode
 use Rattle.interpreter.specs.Trace.{Key, key, Held, held}
 use Rattle.rules.specs.Flags.{Settings, settings}
-use Rattle.rules.specs.Record as rule
-use Rattle.rules.specs.Record.{attributes}
 use Rattle.rules.specs.Text.{Level, level}
 use Rattle.context.specs.declared.flags.TypeFormatterFlags.{TypeFormatterFlags}
 use Rattle.context.specs.declared.flags.FlagsRead.{FlagsRead}
 use Rattle.context.specs.declared.flags.FlagsRead.TheVariants.{Known, Refused}
 use Rattle.context.specs.declared.flags.Call.{Call}
-use Rattle.context.specs.declared.levels.Attributes.{Attributes}
 use Rattle.context.specs.declared.levels.PtrAttributes.{PtrAttributes}
 use Rattle.context.specs.declared.levels.Levels.{Levels}
 use Rattle.context.specs.declared.levels.Dimensions.{Dimensions}
 
 -- The flags of a number, or refusal 1.
 unfoldable pub known : ℕ → FlagsRead
-known bits = pick (ltb bits 128) (Known (record { 0 = bits })) (Refused (UnknownFlags bits))
+known bits = pick (ltb bits 64) (Known (record { 0 = bits })) (Refused (UnknownFlags bits))
 
 -- Whether two sums of flags have a bit in common, as the Rust has it: `self.bits & other.bits != 0`.
 unfoldable pub intersects : ℕ → ℕ → Bool
@@ -47,37 +44,29 @@ has_index i (k ∷ o) = eqb k.index i || has_index i o
 unfoldable pub holding : Call → List ℕ → Held
 holding c seen = held c.chain (keys_of seen)
 
--- Marks, and the pointer levels, the innermost first.
-abbrev pub attributes_of : Attributes → rule.Attributes
-attributes_of a = attributes a.constant a.volatile
-
+-- The pointer levels, the innermost first.
 abbrev pub level_of : PtrAttributes → Level
-level_of l = level (attributes_of l.own) (attributes_of l.pointee) l.mode
+level_of l = level l.constant l.pointee l.mode
 
--- A level in one byte: bit 0 is its const, bit 1 its volatile, bits 2 and 3 are those of what is pointed to, and above them is the mode.
-unfoldable pub marks_byte : Bool → Bool → ℕ
-marks_byte false false = 0
-marks_byte true false = 1
-marks_byte false true = 2
-marks_byte true true = 3
+-- A level in one byte: bit 0 is its const, bit 1 the const of what is pointed to, and above them is the mode.
+unfoldable pub flags_byte : Bool → Bool → ℕ
+flags_byte false false = 0
+flags_byte true false = 1
+flags_byte false true = 2
+flags_byte true true = 3
 
-unfoldable pub mode_number : PointerMode → ℕ
-mode_number mode.Pointer = 0
-mode_number mode.LValueReference = 1
-mode_number mode.Member = 2
-mode_number mode.MemberFunction = 3
-mode_number mode.RValueReference = 4
+unfoldable pub mode_byte : PointerMode → ℕ
+mode_byte mode.Pointer = 0
+mode_byte mode.LValueReference = 4
+mode_byte mode.Member = 8
+mode_byte mode.MemberFunction = 12
+mode_byte mode.RValueReference = 16
 
 -- The byte of a level.
-abbrev pub level_byte : Level → ℕ
-level_byte l =
-    marks_byte l.own.constant l.own.volatile
-    + 4 * (marks_byte l.pointee.constant l.pointee.volatile + 4 * mode_number l.mode)
+abbrev pub level_byte : Bool → Bool → PointerMode → ℕ
+level_byte constant pointee mode = flags_byte constant pointee + mode_byte mode
 
 -- And the level of a byte.
-unfoldable pub marks_at : ℕ → rule.Attributes
-marks_at b = attributes (eqb (b % 2) 1) (eqb (b / 2 % 2) 1)
-
 unfoldable pub mode_at : ℕ → PointerMode
 mode_at n =
     pick (eqb n 0) mode.Pointer
@@ -86,7 +75,7 @@ mode_at n =
     (pick (eqb n 3) mode.MemberFunction mode.RValueReference)))
 
 unfoldable pub level_at : ℕ → Level
-level_at b = level (marks_at b) (marks_at (b / 4)) (mode_at (b / 16))
+level_at b = level (eqb (b % 2) 1) (eqb (b / 2 % 2) 1) (mode_at (b / 4))
 
 -- The levels lie from `left` to the end of their array, the innermost first.
 unfoldable pub levels_of : Levels → List Level
@@ -98,14 +87,14 @@ no_levels = record { items = replicate 96 0; left = 96 }
 
 -- One level more: its byte is set right below the others, and the rest of the array stays.
 unfoldable pub pushed_level : Levels → PtrAttributes → Levels
-pushed_level o l = record { items = set o.items (o.left - 1) (level_byte (level_of l)); left = o.left - 1 }
+pushed_level o l = record { items = set o.items (o.left - 1) (level_byte l.constant l.pointee l.mode); left = o.left - 1 }
 
--- The innermost level, if there is one, with these marks of what it points to.
-unfoldable pub over_levels : Levels → rule.Attributes → Levels
-over_levels o pointee =
+-- The innermost level, if there is one, with this const of what it points to.
+unfoldable pub over_levels : Levels → Bool → Levels
+over_levels o constant =
     pick (ltb o.left 96)
     (let l = level_at (get_or o.items o.left 0) in
-    record { items = set o.items o.left (level_byte (level l.own pointee l.mode)); left = o.left })
+    record { items = set o.items o.left (level_byte l.constant constant l.mode); left = o.left })
     o
 
 -- What a function that gives levels says: which value they are, the whole of it; and what follows, where they begin and what they stand for.

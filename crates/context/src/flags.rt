@@ -26,14 +26,12 @@ impl TypeFormatterFlags {
     pub const NAME_ONLY: TypeFormatterFlags = TypeFormatterFlags(0b1_0000);
     // Do not print a function's argument types.
     pub const NO_ARGUMENTS: TypeFormatterFlags = TypeFormatterFlags(0b10_0000);
-    // Print `volatile` behind the place of `const`: the one flag that the Rust does not have.
-    pub const SHOW_VOLATILE: TypeFormatterFlags = TypeFormatterFlags(0b100_0000);
 
     // The flags of a number: 1 where it has a bit that is no flag.
     pub fn from_bits(bits: u32) -> FlagsRead
         ensures { result ≡ known bits }
     {
-        if bits < 128 {
+        if bits < 64 {
             return FlagsRead::Known(TypeFormatterFlags(bits));
         }
         FlagsRead::Refused(Refusal::UnknownFlags(bits))

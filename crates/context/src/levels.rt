@@ -1,22 +1,14 @@
 // The pointer levels on the way to a type, and the byte sizes of an array's levels; the newest lies lowest.
-ghost use Rattle.std.specs.Prelude.{◌≡◌, [], ◌∷◌, ◌-◌, ◌/◌, ◌≤◌, ◌<◌};
+ghost use Rattle.std.specs.Prelude.{◌≡◌, [], ◌∷◌, ◌-◌, ◌≤◌, ◌<◌};
 ghost use Rattle.rules.specs.Text.{over_pointee};
-ghost use Rattle.context.specs.Context.{attributes_of, marks_byte, marks_at, mode_number, mode_at, level_byte, level_of, level_at, levels_of, no_levels, pushed_level, over_levels, AreLevels};
+ghost use Rattle.context.specs.Context.{flags_byte, mode_byte, mode_at, level_byte, level_of, level_at, levels_of, no_levels, pushed_level, over_levels, AreLevels};
 
 use codeview::record::PointerMode;
 
-// The marks of a modifier or of a pointer.
-#[derive(Drop)]
-pub struct Attributes {
-    pub constant: bool,
-    pub volatile: bool,
-}
-
-// A pointer's own marks, those of what it points to, and its sign.
 #[derive(Drop)]
 pub struct PtrAttributes {
-    pub own: Attributes,
-    pub pointee: Attributes,
+    pub constant: bool,
+    pub pointee: bool,
     pub mode: PointerMode,
 }
 
@@ -33,39 +25,30 @@ pub struct Dimensions {
     pub left: usize,
 }
 
-fn marks_byte(a: Attributes) -> u8
-    ensures { (result ≡ marks_byte a.constant a.volatile) × (result ≤ 3) }
+fn flags_byte(constant: bool, pointee: bool) -> u8
+    ensures { (result ≡ flags_byte constant pointee) × (result ≤ 3) }
 {
-    if a.constant {
-        if a.volatile {
+    if constant {
+        if pointee {
             return 3;
         }
         return 1;
     }
-    if a.volatile {
+    if pointee {
         return 2;
     }
     0
 }
 
-fn marks_of(b: u8) -> Attributes
-    ensures { attributes_of result ≡ marks_at b }
-{
-    Attributes {
-        constant: b % 2 == 1,
-        volatile: b / 2 % 2 == 1,
-    }
-}
-
-fn mode_number(mode: PointerMode) -> u8
-    ensures { (result ≡ mode_number mode) × (result ≤ 4) }
+fn mode_byte(mode: PointerMode) -> u8
+    ensures { (result ≡ mode_byte mode) × (result ≤ 16) }
 {
     match mode {
         PointerMode::Pointer => 0,
-        PointerMode::LValueReference => 1,
-        PointerMode::Member => 2,
-        PointerMode::MemberFunction => 3,
-        PointerMode::RValueReference => 4,
+        PointerMode::LValueReference => 4,
+        PointerMode::Member => 8,
+        PointerMode::MemberFunction => 12,
+        PointerMode::RValueReference => 16,
     }
 }
 
@@ -87,25 +70,23 @@ fn mode_of(n: u8) -> PointerMode
     PointerMode::RValueReference
 }
 
-fn pack(l: PtrAttributes) -> u8
-    ensures { result ≡ level_byte (level_of l) }
+fn pack(constant: bool, pointee: bool, mode: PointerMode) -> u8
+    ensures { result ≡ level_byte constant pointee mode }
 {
-    let own = l.own;
-    let pointee = l.pointee;
-    let mode = l.mode;
-    let a = marks_byte(own);
-    let b = marks_byte(pointee);
-    a + 4 * (b + 4 * mode_number(mode))
+    let flags = flags_byte(constant, pointee);
+    flags + mode_byte(mode)
 }
 
 // The level that a byte holds.
 pub fn unpack(b: u8) -> PtrAttributes
     ensures { level_of result ≡ level_at b }
 {
-    let own = marks_of(b);
-    let pointee = marks_of(b / 4);
-    let mode = mode_of(b / 16);
-    PtrAttributes { own, pointee, mode }
+    let mode = mode_of(b / 4);
+    PtrAttributes {
+        constant: b % 2 == 1,
+        pointee: b / 2 % 2 == 1,
+        mode,
+    }
 }
 
 pub fn no_levels() -> Levels
@@ -123,24 +104,23 @@ pub fn push_level(o: Levels, l: PtrAttributes) -> Levels
     ensures { AreLevels result (pushed_level o l) (o.left - 1) (level_of l ∷ levels_of o) }
 {
     let at = o.left - 1;
-    let b = pack(l);
+    let mode = l.mode;
+    let b = pack(l.constant, l.pointee, mode);
     let mut a = o.items;
     a[at] = b;
     Levels { items: a, left: at }
 }
 
 // A modifier between the last pointer and what it points to.
-pub fn over_pointee(o: Levels, pointee: Attributes) -> Levels
-    ensures { AreLevels result (over_levels o (attributes_of pointee)) o.left (over_pointee (attributes_of pointee) (levels_of o)) }
+pub fn over_pointee(o: Levels, constant: bool) -> Levels
+    ensures { AreLevels result (over_levels o constant) o.left (over_pointee constant (levels_of o)) }
 {
     let at = o.left;
     let mut a = o.items;
     if at < 96 {
         let l = unpack(a[at]);
-        let own = l.own;
         let mode = l.mode;
-        let over = PtrAttributes { own, pointee, mode };
-        let b = pack(over);
+        let b = pack(l.constant, constant, mode);
         a[at] = b;
         return Levels { items: a, left: at };
     }

@@ -68,8 +68,6 @@ use Rattle.interpreter.specs.Trace.{
 use Rattle.interpreter.specs.Trace as trace
 use Rattle.rules.specs.Flags.{Settings}
 use Rattle.rules.specs.Record.{
-  Attributes,
-  attributes,
   Record,
   Method,
   Read,
@@ -91,7 +89,7 @@ use Rattle.rules.specs.Record.{
   numbers_at,
 }
 use Rattle.rules.specs.Places.{table_by, read_near, Lent, table_in}
-use Rattle.rules.specs.Text.{missing_mark, unmarked, joined, shows_volatile, leading, trailing, primitive_text, Level, level, levels, over_pointee, ends_signed, brackets}
+use Rattle.rules.specs.Text.{missing_mark, primitive_text, Level, level, levels, over_pointee, ends_signed, brackets}
 use Rattle.rules.specs.Task.{Task, by_itself, target, target_of_modifier, modified, list_of, element, size_of, Rule, inside, texted, unread, marked, value_of, separated}
 use Rattle.rules.specs.Types.{result, procedure_result, returned, method_arguments, argument_entries, named_text, type_text, alone}
 use Rattle.rules.specs.Pointers.{pointed, aimed, aimed_again, modified_text}
@@ -104,8 +102,7 @@ use Rattle.pen.proofs.Laws.{◌▹◌, ◌▸◌, wrote_as, wrote-step, wrote-id
 use Rattle.context.specs.declared.flags.Call.{Call}
 use Rattle.context.specs.declared.seen.Way.{Way}
 use Rattle.context.specs.declared.seen.Way.TheVariants as way
-use Rattle.context.specs.declared.levels.Attributes as declared
-use Rattle.context.specs.Context.{settings_of, attributes_of, holding, sizes_of}
+use Rattle.context.specs.Context.{settings_of, holding, sizes_of}
 use Rattle.context.specs.Opening.{way_of, Opens, Writes}
 use Rattle.context.proofs.Opening.{ruled-pick, unread-is, read-good, read-bad, walk-on, open_in, opened-then, stopped-then, type-open, type-bad, writes-by}
 use Rattle.leaf_writers.specs.Marks.{mark_trace}
@@ -198,9 +195,9 @@ module _ (c : Settings) (s : List ℕ) where
   unfolding pointed type_contents
   pointed-plain ls = by-tag no_function (λ t. pointed c ls (type_contents s t) ≡ plain_pointed c ls (type_contents s t)) search
 
-  modified-other : (b : Attributes) (t : TypeData) → OneOf no_pointer_primitive (tag_of the_type t) → modified_text c b (type_contents s t) ≡ seq (write (leading c b)) (texted (type_text c (type_contents s t)))
+  modified-other : (b : Bool) (t : TypeData) → OneOf no_pointer_primitive (tag_of the_type t) → modified_text c b (type_contents s t) ≡ seq (write (pick b (bytes "const ") [])) (texted (type_text c (type_contents s t)))
   unfolding modified_text type_contents
-  modified-other b = by-tag no_pointer_primitive (λ t. modified_text c b (type_contents s t) ≡ seq (write (leading c b)) (texted (type_text c (type_contents s t)))) search
+  modified-other b = by-tag no_pointer_primitive (λ t. modified_text c b (type_contents s t) ≡ seq (write (pick b (bytes "const ") [])) (texted (type_text c (type_contents s t)))) search
 
   list-other : (T : Table) (q : Method) (b : Bool) (t : TypeData) → OneOf no_list (tag_of the_type t) → method_list c T q b (type_contents s t) ≡ refuse (ArgumentTypeNotArgumentList q.list)
   unfolding method_list type_contents
@@ -291,25 +288,20 @@ module _ (c : Settings) (t : Table) (h : Held) where
   entries-more sep b a al = refl
 
   -- What follows from the this pointer.
-  pub given_is : (m : Method) (list : List ℕ) (closes : Bool) (a : Attributes)
-      → writing (bytes "(") ⨾ ruled c t h (argument_entries c false list) ⨾ writing (bytes ")") ⨾ writing (pick closes (trailing c true a) [])
-      ≡ ruled c t h (method_text c m closes list false a)
+  pub given_is : (m : Method) (list : List ℕ) (closes constant shut : Bool) → shut ≡ closes && constant
+      → writing (bytes "(") ⨾ ruled c t h (argument_entries c false list) ⨾ writing (bytes ")") ⨾ writing (pick shut (bytes " const") [])
+      ≡ ruled c t h (method_text c m closes list false constant)
   unfolding ruled exec method_text ◌⨾◌
-  given_is m list closes a = rw prefix-none
+  given_is m list closes constant shut e =
+      rw (e, prefix-none)
 
-  -- No marks close nothing.
-  not-shown : (b : Bool) → (b && false) ≡ false
-  not-shown true = refl
-  not-shown false = refl
-
-  never-shut : (b : Bool) → pick b (trailing c true unmarked) [] ≡ []
-  unfolding trailing shows_volatile
-  never-shut true = rw (not-shown c.show_volatile)
+  never-shut : (b : Bool) → pick (b && false) (bytes " const") [] ≡ []
+  never-shut true = refl
   never-shut false = refl
 
   pub extra-is : (m : Method) (list : List ℕ) (closes : Bool)
       → writing (bytes "(") ⨾ walked c t h (by_itself m.this) ⨾ ruled c t h (argument_entries c true list) ⨾ writing (bytes ")")
-      ≡ ruled c t h (method_text c m closes list true unmarked)
+      ≡ ruled c t h (method_text c m closes list true false)
   unfolding ruled exec method_text ◌⨾◌
   extra-is m list closes = rw (never-shut closes)
 
@@ -352,13 +344,13 @@ module _ (s : List ℕ) (d : Lent) (call : Call) (o : List ℕ) where
 
   -- What is done with a target that was read, by its kind.
   module _ (ls : List Level) (x : TypeData) where
-    pub aimed-pointer : (m : Bool) (p : PointerType) (g : List Level) → x ≡ type.Pointer p → g ≡ level (attributes p.constant p.volatile) unmarked p.mode ∷ ls
+    pub aimed-pointer : (m : Bool) (p : PointerType) (g : List Level) → x ≡ type.Pointer p → g ≡ level p.constant false p.mode ∷ ls
         → walked c t h (target p.underlying.0 g) ≡ ruled c t h (aimed_rule c m ls (type_contents s x))
     unfolding ruled exec aimed aimed_again type_contents
     aimed-pointer true p g e f = rw (e, f)
     aimed-pointer false p g e f = rw (e, f)
 
-    pub aimed-modifier : (m : Bool) (p : ModifierType) (g : List Level) → m ≡ false → x ≡ type.Modifier p → g ≡ over_pointee (attributes p.constant p.volatile) ls
+    pub aimed-modifier : (m : Bool) (p : ModifierType) (g : List Level) → m ≡ false → x ≡ type.Modifier p → g ≡ over_pointee p.constant ls
         → walked c t h (target_of_modifier p.underlying.0 g) ≡ ruled c t h (aimed_rule c m ls (type_contents s x))
     unfolding ruled exec aimed type_contents
     aimed-modifier m p g a e f = rw (a, e, f)
@@ -372,8 +364,8 @@ module _ (s : List ℕ) (d : Lent) (call : Call) (o : List ℕ) where
         → ruled c t h (pointed c ls (type_contents s x)) ≡ ruled c t h (aimed_rule c m ls (type_contents s x))
     aimed-plain m n = ap (λ (p : Rule). ruled c t h p) (sym (aimed-other c s ls m x n))
 
-  module _ (n : Attributes) (x : TypeData) where
-    pub modified-pointer : (p : PointerType) (w : Attributes) (g q : List Level) → x ≡ type.Pointer p → w ≡ joined (attributes p.constant p.volatile) n → q ≡ [] → g ≡ level w unmarked p.mode ∷ q
+  module _ (n : Bool) (x : TypeData) where
+    pub modified-pointer : (p : PointerType) (w : Bool) (g q : List Level) → x ≡ type.Pointer p → w ≡ p.constant || n → q ≡ [] → g ≡ level w false p.mode ∷ q
         → walked c t h (target p.underlying.0 g) ≡ ruled c t h (modified_text c n (type_contents s x))
     unfolding ruled exec modified_text type_contents
     modified-pointer p w g q e f u v = rw (e, v, u, f)
@@ -383,21 +375,21 @@ module _ (s : List ℕ) (d : Lent) (call : Call) (o : List ℕ) where
     modified-primitive p e = rw e
 
     pub modified-plain : OneOf no_pointer_primitive (tag_of the_type x)
-        → writing (leading c n) ⨾ ruled c t h (texted (type_text c (type_contents s x))) ≡ ruled c t h (modified_text c n (type_contents s x))
+        → writing (pick n (bytes "const ") []) ⨾ ruled c t h (texted (type_text c (type_contents s x))) ≡ ruled c t h (modified_text c n (type_contents s x))
     unfolding ruled exec ◌⨾◌
     modified-plain j = rw (modified-other c s n x j)
 
   -- The this pointer decides what follows.
   module _ (m : Method) (closes : Bool) (list : List ℕ) (r : ThisRead) (e : r ≡ this_of (λ i. type_as_read s (read_near s d.near i)) m.this m.class) where
-    by-this : ruled c t h (by_this r (λ extra marks. method_text c m closes list extra marks)) ≡ ruled c t h (method_list c t m closes (arguments list))
+    by-this : ruled c t h (by_this r (λ extra constant. method_text c m closes list extra constant)) ≡ ruled c t h (method_list c t m closes (arguments list))
     unfolding method_list table_in table_by
-    by-this = rw e (ap (λ (p : Rule). ruled c t h p) (sym (this-is c t m (λ extra marks. method_text c m closes list extra marks))))
+    by-this = rw e (ap (λ (p : Rule). ruled c t h p) (sym (this-is c t m (λ extra constant. method_text c m closes list extra constant))))
 
-    pub this-given : (a : declared.Attributes) → r ≡ this.Given a
-        → writing (bytes "(") ⨾ ruled c t h (argument_entries c false list) ⨾ writing (bytes ")") ⨾ writing (pick closes (trailing c true (attributes_of a)) [])
+    pub this-given : (constant shut : Bool) → r ≡ this.Given constant → shut ≡ closes && constant
+        → writing (bytes "(") ⨾ ruled c t h (argument_entries c false list) ⨾ writing (bytes ")") ⨾ writing (pick shut (bytes " const") [])
         ≡ ruled c t h (method_list c t m closes (arguments list))
     unfolding by_this
-    this-given a f = given_is c t h m list closes (attributes_of a) ∙ (rw f at by-this)
+    this-given constant shut f g = given_is c t h m list closes constant shut g ∙ (rw f at by-this)
 
     pub this-extra : r ≡ this.Other
         → writing (bytes "(") ⨾ walked c t h (by_itself m.this) ⨾ ruled c t h (argument_entries c true list) ⨾ writing (bytes ")")
@@ -411,16 +403,16 @@ module _ (s : List ℕ) (d : Lent) (call : Call) (o : List ℕ) where
 
   -- A type by its kind.
   pub inner-primitive : (x : TypeData) (p : PrimitiveType) → x ≡ type.Primitive p
-      → writing (primitive_text c unmarked p.code p.indirection) ≡ ruled c t h (type_text c (type_contents s x))
+      → writing (primitive_text c false p.code p.indirection) ≡ ruled c t h (type_text c (type_contents s x))
   unfolding ruled exec type_text type_contents
   inner-primitive x p e = rw e
 
   pub inner-modifier : (x : TypeData) (p : ModifierType) → x ≡ type.Modifier p
-      → walked c t h (modified p.underlying.0 (attributes p.constant p.volatile)) ≡ ruled c t h (type_text c (type_contents s x))
+      → walked c t h (modified p.underlying.0 p.constant) ≡ ruled c t h (type_text c (type_contents s x))
   unfolding ruled exec type_text type_contents
   inner-modifier x p e = rw e
 
-  pub inner-pointer : (x : TypeData) (p : PointerType) (g q : List Level) → x ≡ type.Pointer p → q ≡ [] → g ≡ level (attributes p.constant p.volatile) unmarked p.mode ∷ q
+  pub inner-pointer : (x : TypeData) (p : PointerType) (g q : List Level) → x ≡ type.Pointer p → q ≡ [] → g ≡ level p.constant false p.mode ∷ q
       → walked c t h (target p.underlying.0 g) ≡ ruled c t h (type_text c (type_contents s x))
   unfolding ruled exec type_text type_contents
   inner-pointer x p g q e f k = rw (e, k, f)
@@ -557,7 +549,7 @@ module _ (s : List ℕ) (d : Lent) (call : Call) (list : List ℕ) (left : ℕ) 
         aimed-bad f v = type-bad s d call list left (aimed_at m i ls) (way_to m) i aimed-entry (aimed_rule c₁ m ls) aimed-body b way-is room low go y f v
 
   -- Any other modifier's target.
-  module _ (i : ℕ) (n : Attributes) {p q : Pen} {l : List ℕ} (b : List ℕ) (z : Opens p list left way.Modified i l q) (room : length list ≡ 96) (low : left ≤ 96) where
+  module _ (i : ℕ) (n : Bool) {p q : Pen} {l : List ℕ} (b : List ℕ) (z : Opens p list left way.Modified i l q) (room : length list ≡ 96) (low : left ≤ 96) where
     modified-entry : entry_of c₁ t₁ (modified i n) ≡ opens (key 4 i)
     unfolding entry_of
     modified-entry = refl

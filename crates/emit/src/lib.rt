@@ -2,14 +2,14 @@
 // most 96. They are lent one list for these: what is open lies from `left` on, and each writes only below. A writer that is given a stopped pen returns at
 // once.
 ghost use Rattle.std.specs.Prelude.{◌≡◌, ◌-◌, ◌≤◌, ◌<◌, length, false, [], ◌∷◌};
-ghost use Rattle.rules.specs.Text.{unmarked, joined, level};
+ghost use Rattle.rules.specs.Text.{level};
 ghost use Rattle.rules.specs.Record.{method, procedure, arguments, type_contents};
 ghost use Rattle.rules.specs.Places.{lent};
 ghost use Rattle.rules.specs.Task.{by_itself, modified, element, texted};
 ghost use Rattle.rules.specs.Types.{type_text, result, method_arguments, argument_entries};
 ghost use Rattle.rules.specs.Pointers.{pointed};
 ghost use Rattle.pen.specs.Page.{page};
-ghost use Rattle.context.specs.Context.{settings_of, attributes_of, levels_of};
+ghost use Rattle.context.specs.Context.{settings_of, levels_of};
 ghost use Rattle.context.specs.Opening.{Writes};
 ghost use Rattle.emit.specs.Walking.{walking, ruling, method_of, entries_at, list_rule, plain_pointed, aimed_at, way_to};
 
@@ -19,16 +19,16 @@ use codeview::record::{
 };
 use codeview::types::type_at;
 use context::flags::Call;
-use context::levels::{Attributes, Levels, PtrAttributes, no_levels, over_pointee, push_level};
+use context::levels::{Levels, PtrAttributes, no_levels, over_pointee, push_level};
 use context::seen::{Way, open_index};
-use leaf_writers::attributes::{emit_attributes, emit_closing, emit_leading};
+use leaf_writers::attributes::emit_attributes;
 use leaf_writers::brackets::emit_brackets;
 use leaf_writers::fragments::{
-    either, emit_attributes_since, emit_comma, emit_record, entry_at, hides_return, is_void,
+    both, either, emit_attributes_since, emit_comma, emit_record, entry_at, hides_return, is_void,
 };
 use leaf_writers::marks::{emit_mark, mark_missing};
 use leaf_writers::named::emit_primitive;
-use leaf_writers::settings::no_arguments;
+use leaf_writers::settings::{no_arguments, text_if};
 use pen::Pen;
 use queries::arrays::{ArrayEnd, get_array_info};
 use queries::sizes::{SizeRead, get_type_size};
@@ -122,13 +122,14 @@ fn args(
     let this = m.this;
     let class = m.class;
     match check_ptr_class(types, bounds, places, this, class) {
-        ThisRead::Given(marks) => {
+        ThisRead::Given(constant) => {
+            let shut = both(closes, constant);
             let a = pen::text(out, p, b"(");
             let b = emit_arg_list(
                 types, ids, bounds, places, out, a, call, seen, left, false, e,
             );
             let c = pen::text(out, b, b")");
-            emit_closing(out, c, call, closes, marks)
+            text_if(out, c, shut, b" const")
         }
         ThisRead::Other => {
             let a = pen::text(out, p, b"(");
@@ -300,11 +301,7 @@ fn emit_ptr(
             TypeData::Pointer(x) => {
                 let mode = x.mode;
                 let under = x.underlying;
-                let own = Attributes {
-                    constant: x.constant,
-                    volatile: x.volatile,
-                };
-                let further = aim(levels, own, mode);
+                let further = aim(levels, x.constant, mode);
                 emit_ptr(
                     types, ids, bounds, places, out, q, call, seen, n, further, false, under,
                 )
@@ -316,11 +313,7 @@ fn emit_ptr(
                     );
                 }
                 let under = m.underlying;
-                let marks = Attributes {
-                    constant: m.constant,
-                    volatile: m.volatile,
-                };
-                let over = over_pointee(levels, marks);
+                let over = over_pointee(levels, m.constant);
                 emit_ptr(
                     types, ids, bounds, places, out, q, call, seen, n, over, true, under,
                 )
@@ -393,11 +386,7 @@ fn base(
         TypeData::Pointer(x) => {
             let mode = x.mode;
             let under = x.underlying;
-            let own = Attributes {
-                constant: x.constant,
-                volatile: x.volatile,
-            };
-            let first = aim(no_levels(), own, mode);
+            let first = aim(no_levels(), x.constant, mode);
             let q = emit_ptr(
                 types, ids, bounds, places, out, p, call, seen, left, first, false, under,
             );
@@ -405,12 +394,8 @@ fn base(
         }
         TypeData::Modifier(m) => {
             let under = m.underlying;
-            let marks = Attributes {
-                constant: m.constant,
-                volatile: m.volatile,
-            };
             let q = emit_modifier(
-                types, ids, bounds, places, out, p, call, seen, left, marks, under,
+                types, ids, bounds, places, out, p, call, seen, left, m.constant, under,
             );
             mark_missing(out, q)
         }
@@ -418,7 +403,7 @@ fn base(
     }
 }
 
-// Any other modifier's target: a pointer takes the marks, a primitive leads with them, any other type has them before its own text.
+// Any other modifier's target: a pointer takes the const, a primitive leads with it, any other type has it before its own text.
 #[cycle(args_base_emit_arg_list_emit_array_emit_member_ptr_emit_method_args_emit_modifier_emit_other_ptr_emit_proc_ptr_emit_ptr_emit_ptr_helper_emit_return_type_emit_type_emit_type_index_emit_type_inner)]
 fn emit_modifier(
     types: &[u8],
@@ -430,11 +415,11 @@ fn emit_modifier(
     call: Call,
     seen: &mut [u64],
     left: usize,
-    marks: Attributes,
+    constant: bool,
     index: TypeIndex,
 ) -> Pen
     requires { (length seen.old ≡ 96) × (left ≤ 96) }
-    ensures* { λ r. ⌜ Writes left seen.old seen.new (page out.old p) (λ o. walking types.now (lent ids.now bounds.now places.now) call o (modified index.0 (attributes_of marks))) (page out.new r) ⌝ }
+    ensures* { λ r. ⌜ Writes left seen.old seen.new (page out.old p) (λ o. walking types.now (lent ids.now bounds.now places.now) call o (modified index.0 constant)) (page out.new r) ⌝ }
 {
     let q = open_index(p, seen, left, Way::Modified, index);
     if pen::is_idle(q) {
@@ -446,18 +431,14 @@ fn emit_modifier(
             TypeData::Pointer(x) => {
                 let mode = x.mode;
                 let under = x.underlying;
-                let own = Attributes {
-                    constant: x.constant,
-                    volatile: x.volatile,
-                };
-                let first = aim(no_levels(), join(own, marks), mode);
+                let first = aim(no_levels(), either(x.constant, constant), mode);
                 emit_ptr(
                     types, ids, bounds, places, out, q, call, seen, n, first, false, under,
                 )
             }
-            TypeData::Primitive(x) => emit_primitive(out, q, call, marks, x.code, x.indirection),
+            TypeData::Primitive(x) => emit_primitive(out, q, call, constant, x.code, x.indirection),
             _ => {
-                let a = emit_leading(out, q, call, marks);
+                let a = text_if(out, q, constant, b"const ");
                 base(types, ids, bounds, places, out, a, call, seen, n, t)
             }
         },
@@ -574,31 +555,17 @@ fn emit_type_inner(
     ensures* { λ r. ⌜ Writes left seen.old seen.new (page out.old p) (λ o. ruling types.now (lent ids.now bounds.now places.now) call o (type_text (settings_of call) (type_contents types.now t))) (page out.new r) ⌝ }
 {
     match t {
-        TypeData::Primitive(x) => {
-            let none = Attributes {
-                constant: false,
-                volatile: false,
-            };
-            emit_primitive(out, p, call, none, x.code, x.indirection)
-        }
+        TypeData::Primitive(x) => emit_primitive(out, p, call, false, x.code, x.indirection),
         TypeData::Modifier(m) => {
             let under = m.underlying;
-            let marks = Attributes {
-                constant: m.constant,
-                volatile: m.volatile,
-            };
             emit_modifier(
-                types, ids, bounds, places, out, p, call, seen, left, marks, under,
+                types, ids, bounds, places, out, p, call, seen, left, m.constant, under,
             )
         }
         TypeData::Pointer(x) => {
             let mode = x.mode;
             let under = x.underlying;
-            let own = Attributes {
-                constant: x.constant,
-                volatile: x.volatile,
-            };
-            let first = aim(no_levels(), own, mode);
+            let first = aim(no_levels(), x.constant, mode);
             emit_ptr(
                 types, ids, bounds, places, out, p, call, seen, left, first, false, under,
             )
@@ -630,26 +597,19 @@ fn emit_type_inner(
     }
 }
 
-// One pointer further in, with its own marks: what it points to has none so far.
-fn aim(o: Levels, own: Attributes, mode: PointerMode) -> Levels
+// One pointer further in.
+fn aim(o: Levels, constant: bool, mode: PointerMode) -> Levels
     requires { (0 < o.left) × (o.left ≤ 96) }
-    ensures* { λ r. ⌜ (r.left ≡ o.left - 1) × (levels_of r ≡ level (attributes_of own) unmarked mode ∷ levels_of o) ⌝ }
+    ensures* { λ r. ⌜ (r.left ≡ o.left - 1) × (levels_of r ≡ level constant false mode ∷ levels_of o) ⌝ }
 {
-    let pointee = Attributes {
-        constant: false,
-        volatile: false,
-    };
-    push_level(o, PtrAttributes { own, pointee, mode })
-}
-
-// The marks of a pointer and of the modifier over it.
-fn join(a: Attributes, b: Attributes) -> Attributes
-    ensures* { λ r. ⌜ attributes_of r ≡ joined (attributes_of a) (attributes_of b) ⌝ }
-{
-    Attributes {
-        constant: either(a.constant, b.constant),
-        volatile: either(a.volatile, b.volatile),
-    }
+    push_level(
+        o,
+        PtrAttributes {
+            constant,
+            pointee: false,
+            mode,
+        },
+    )
 }
 
 // How a target is opened: a pointer's, or that of a pointer's modifier.

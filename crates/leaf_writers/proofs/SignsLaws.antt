@@ -2,7 +2,7 @@
 use Prim.Native.Nat.{ℕ, zero, suc, ◌+◌, ◌<◌, ◌≤◌}
 use mathlib.Core.Path.{◌≡◌, refl, ap, sym, ◌∙◌}
 use mathlib.Core.List.{List, [], ◌∷◌, ◌++◌, append_assoc, map}
-use mathlib.Core.Bool.{Bool, true, false, not, ◌&&◌, ◌||◌}
+use mathlib.Core.Bool.{Bool, true, false, not, ◌&&◌}
 use lib.ListN.{length, drop, get_or, drop_of_length-le}
 use lib.Seq.{drop-cons}
 use native.Mathlib.Numerals.{add-one}
@@ -14,15 +14,13 @@ use Rattle.wire.specs.Text.{bytes}
 use Rattle.codeview.specs.declared.record.PointerMode.{PointerMode}
 use Rattle.codeview.specs.declared.record.ClassKind.{ClassKind}
 use Rattle.codeview.specs.declared.record.ClassKind.TheVariants as kind
-use Rattle.utf8.proofs.Shown.{never}
 use Rattle.rules.specs.Flags.{Settings}
-use Rattle.rules.specs.Record.{Attributes}
-use Rattle.rules.specs.Text.{primitive_name, shows_volatile, shows_any, leading, trailing, primitive_text, worded, class_text, sign, Level, levels}
+use Rattle.rules.specs.Text.{primitive_name, primitive_text, worded, class_text, sign, Level, levels}
 use Rattle.pen.specs.Page.{Page, PageRead, read_page, ink, Wrote, writing}
 use Rattle.pen.proofs.Laws.{ink-append, ink-nil, run-say}
 use Rattle.context.specs.declared.levels.PtrAttributes.{PtrAttributes}
 use Rattle.context.specs.Context.{level_of, level_at}
-use Rattle.leaf_writers.specs.Signs.{behind_word, class_word, spaced, level_text}
+use Rattle.leaf_writers.specs.Signs.{behind_word, class_word, const_text, spaced, level_text}
 
 -- A text under a condition.
 pub text-on : (b : Bool) (s : List ℕ) → b ≡ true → writing s ≡ writing (pick b s [])
@@ -31,96 +29,25 @@ text-on b s h = rw h
 pub text-off : (b : Bool) (s : List ℕ) → b ≡ false → writing [] ≡ writing (pick b s [])
 text-off b s h = rw h
 
--- Which marks are written.
-pub shows-on : (c : Settings) (a : Attributes) (on : Bool) → on ≡ c.show_volatile → a.volatile ≡ true → on ≡ shows_volatile c a
-unfolding shows_volatile
-shows-on c a on e h = rw h (e ∙ by c.show_volatile)
-  where
-    by : (b : Bool) → b ≡ (b && true)
-    by true = refl
-    by false = refl
-
-pub shows-off : (c : Settings) (a : Attributes) → a.volatile ≡ false → false ≡ shows_volatile c a
-unfolding shows_volatile
-shows-off c a h = rw h (by c.show_volatile)
-  where
-    by : (b : Bool) → false ≡ (b && false)
-    by true = refl
-    by false = refl
-
-pub any-const : (c : Settings) (a : Attributes) → a.constant ≡ true → true ≡ shows_any c a
-unfolding shows_any
-any-const c a h = rw h
-
-pub any-else : (c : Settings) (a : Attributes) (on : Bool) → on ≡ shows_volatile c a → a.constant ≡ false → on ≡ shows_any c a
-unfolding shows_any
-any-else c a on e h = e ∙ sym (ap (λ (b : Bool). b || shows_volatile c a) h)
-
--- A word with a space before it, and without.
-pub word-spaced : (b free : Bool) (s t : List ℕ) → free ≡ true → writing (pick b s []) ≡ writing (pick b (pick free s t) [])
-word-spaced b free s t h = rw h
-
-pub word-tight : (b free : Bool) (s t : List ℕ) → free ≡ false → writing (pick b t []) ≡ writing (pick b (pick free s t) [])
-word-tight b free s t h = rw h
-
--- Marks before a text and behind it.
-pub leading-is : (c : Settings) (a : Attributes) (on : Bool) → on ≡ shows_volatile c a
-    → writing (pick a.constant (bytes "const ") [] ++ pick on (bytes "volatile ") []) ≡ writing (leading c a)
-unfolding leading
-leading-is c a on e = rw e
-
-pub trailing-is : (c : Settings) (free : Bool) (a : Attributes) (on apart : Bool) → on ≡ shows_volatile c a → apart ≡ (free || a.constant)
-    → writing (pick a.constant (pick free (bytes " const") (bytes "const")) [] ++ pick on (pick apart (bytes " volatile") (bytes "volatile")) [])
-    ≡ writing (trailing c free a)
-unfolding trailing
-trailing-is c free a on apart e f = rw (e, f)
-
--- Where no mark is written there is nothing.
-no_words : (x y : Bool) (s t : List ℕ) → (x || y) ≡ false → [] ≡ pick x s [] ++ pick y t []
-no_words true y s t e = never (sym e)
-no_words false true s t e = never (sym e)
-no_words false false s t e = refl
-
-leading-where : (c : Settings) (a : Attributes) → pick (shows_any c a) (leading c a) [] ≡ leading c a
-unfolding leading shows_any
-leading-where c a = by (shows_any c a) refl
-  where
-    by : (t : Bool) → shows_any c a ≡ t → pick t (leading c a) [] ≡ leading c a
-    by true e = refl
-    by false e = no_words a.constant (shows_volatile c a) _ _ e
-
-pub trailing-where : (c : Settings) (free : Bool) (a : Attributes) → pick (shows_any c a) (trailing c free a) [] ≡ trailing c free a
-unfolding trailing shows_any
-trailing-where c free a = by (shows_any c a) refl
-  where
-    by : (t : Bool) → shows_any c a ≡ t → pick t (trailing c free a) [] ≡ trailing c free a
-    by true e = refl
-    by false e = no_words a.constant (shows_volatile c a) _ _ e
-
--- Where marks are written under a condition, it is enough to write those that there are.
-pick-both : (x y : Bool) (s : List ℕ) → pick y s [] ≡ s → pick (x && y) s [] ≡ pick x s []
-pick-both true y s e = e
-pick-both false y s e = refl
-
-pub leads-where : (c : Settings) (leads any on : Bool) (a : Attributes) → any ≡ shows_any c a → on ≡ (leads && any) → {b : Bool} → on ≡ b
-    → writing (pick b (leading c a) []) ≡ writing (pick leads (leading c a) [])
-leads-where c leads any on a e f h = rw (sym h ∙ f, e) (ap writing (pick-both leads (shows_any c a) (leading c a) (leading-where c a)))
-
-pub closes-where : (c : Settings) (closes any on : Bool) (a : Attributes) → any ≡ shows_any c a → on ≡ (closes && any) → {b : Bool} → on ≡ b
-    → writing (pick b (trailing c true a) []) ≡ writing (pick closes (trailing c true a) [])
-closes-where c closes any on a e f h = rw (sym h ∙ f, e) (ap writing (pick-both closes (shows_any c a) (trailing c true a) (trailing-where c true a)))
-
--- A primitive by itself, and one that is pointed to: marks lead only where nothing is pointed to.
-pub primitive-bare : (c : Settings) (a : Attributes) (code n : ℕ) → n ≡ 0
-    → writing (pick (eqb n 0) (leading c a) [] ++ primitive_name code) ≡ writing (primitive_text c a code n)
+-- A primitive by itself, and one that is pointed to.
+pub primitive-itself : (c : Settings) (constant : Bool) (code n : ℕ) → n ≡ 0 → writing (pick constant (bytes "const ") [] ++ primitive_name code) ≡ writing (primitive_text c constant code n)
 unfolding primitive_text
-primitive-bare c a code n h = rw h
+primitive-itself c constant code n h = rw h
 
-pub primitive-aimed : (c : Settings) (a : Attributes) (any space : Bool) (code n : ℕ) → any ≡ shows_any c a → space ≡ c.space_pointer → (n ≡ 0 → ⊥)
-    → writing (pick (eqb n 0) (leading c a) [] ++ (primitive_name code ++ (pick any (trailing c true a) [] ++ (pick space (bytes " ") [] ++ bytes "*")))) ≡ writing (primitive_text c a code n)
+pub primitive-pointed : (c : Settings) (constant space : Bool) (code n : ℕ) → space ≡ c.space_pointer → (n ≡ 0 → ⊥)
+    → writing (primitive_name code ++ (pick constant (bytes " const") [] ++ (pick space (bytes " ") [] ++ bytes "*"))) ≡ writing (primitive_text c constant code n)
 unfolding primitive_text
-primitive-aimed c a any space code zero f e h = absurd (h refl)
-primitive-aimed c a any space code (suc n) f e h = rw (ne_eqb (suc n) 0 h, e, f, trailing-where c true a)
+primitive-pointed c constant space code zero e h = absurd (h refl)
+primitive-pointed c constant space code (suc n) e h = rw e
+
+-- The same behind a const that is written only where nothing is pointed to.
+pub primitive-bare : (c : Settings) (constant first : Bool) (code n : ℕ) → first ≡ (eqb n 0 && constant) → n ≡ 0
+    → writing (pick first (bytes "const ") [] ++ primitive_name code) ≡ writing (primitive_text c constant code n)
+primitive-bare c constant first code n e h = rw (e, eq-eqb n 0 h) (primitive-itself c constant code n h)
+
+pub primitive-aimed : (c : Settings) (constant first space : Bool) (code n : ℕ) → first ≡ (eqb n 0 && constant) → space ≡ c.space_pointer → (n ≡ 0 → ⊥)
+    → writing (pick first (bytes "const ") [] ++ (primitive_name code ++ (pick constant (bytes " const") [] ++ (pick space (bytes " ") [] ++ bytes "*")))) ≡ writing (primitive_text c constant code n)
+primitive-aimed c constant first space code n e f h = rw (e, ne_eqb n 0 h) (primitive-pointed c constant space code n f h)
 
 -- A name alone, and behind its word.
 pub named-alone : (c : Settings) (only : Bool) (word name : List ℕ) → only ≡ c.name_only → only ≡ true → writing name ≡ writing (behind_word c word name)
@@ -155,52 +82,60 @@ class-behind c kind.Interface name = behind-word (bytes "interface") c.name_only
 pub sign-as : (m n : PointerMode) → m ≡ n → writing (sign n) ≡ writing (sign m)
 sign-as m n e = rw e
 
+-- The const of what is pointed to.
+pub const_free : (constant free : Bool) → free ≡ true → writing (pick constant (bytes " const") []) ≡ writing (const_text constant free)
+unfolding const_text
+const_free constant free h = rw h
+
+pub const-first : (constant free : Bool) → free ≡ false → writing (pick constant (bytes "const") []) ≡ writing (const_text constant free)
+unfolding const_text
+const-first constant free h = rw h
+
 -- The space before a sign.
-pub spaced-off : (space free signed marked : Bool) → space ≡ false → false ≡ spaced space free signed marked
+pub spaced-off : (space free signed pointee : Bool) → space ≡ false → false ≡ spaced space free signed pointee
 unfolding spaced
-spaced-off space free signed marked h = rw h
+spaced-off space free signed pointee h = rw h
 
-pub spaced-marked : (space free signed marked : Bool) → space ≡ true → marked ≡ true → true ≡ spaced space free signed marked
+pub spaced-const : (space free signed pointee : Bool) → space ≡ true → pointee ≡ true → true ≡ spaced space free signed pointee
 unfolding spaced
-spaced-marked space true true marked h k = rw (h, k)
-spaced-marked space true false marked h k = rw h
-spaced-marked space false true marked h k = rw (h, k)
-spaced-marked space false false marked h k = rw (h, k)
+spaced-const space true true pointee h k = rw (h, k)
+spaced-const space true false pointee h k = rw h
+spaced-const space false true pointee h k = rw (h, k)
+spaced-const space false false pointee h k = rw (h, k)
 
-pub spaced-signed : (space free signed marked : Bool) → space ≡ true → marked ≡ false → signed ≡ true → false ≡ spaced space free signed marked
+pub spaced-signed : (space free signed pointee : Bool) → space ≡ true → pointee ≡ false → signed ≡ true → false ≡ spaced space free signed pointee
 unfolding spaced
-spaced-signed space free signed marked h k l = rw (h, k, l)
+spaced-signed space free signed pointee h k l = rw (h, k, l)
 
-pub spaced-free : (space free signed marked : Bool) → space ≡ true → marked ≡ false → signed ≡ false → free ≡ spaced space free signed marked
+pub spaced-free : (space free signed pointee : Bool) → space ≡ true → pointee ≡ false → signed ≡ false → free ≡ spaced space free signed pointee
 unfolding spaced
-spaced-free space true signed marked h k l = rw (h, k, l)
-spaced-free space false signed marked h k l = rw (h, k, l)
+spaced-free space true signed pointee h k l = rw (h, k, l)
+spaced-free space false signed pointee h k l = rw (h, k, l)
 
 -- One level.
-pub level-is : (c : Settings) (free signed space marked own on : Bool) (l : Level) → space ≡ c.space_pointer → marked ≡ shows_any c l.pointee → own ≡ shows_any c l.own → on ≡ spaced space free signed marked
-    → writing (pick marked (trailing c free l.pointee) [] ++ (pick on (bytes " ") [] ++ (sign l.mode ++ pick own (trailing c true l.own) []))) ≡ writing (level_text c free signed l)
+pub level-is : (c : Settings) (free signed space on : Bool) (l : Level) → space ≡ c.space_pointer → on ≡ spaced space free signed l.pointee
+    → writing (const_text l.pointee free ++ (pick on (bytes " ") [] ++ (sign l.mode ++ pick l.constant (bytes " const") []))) ≡ writing (level_text c free signed l)
 unfolding level_text
-level-is c free signed space marked own on l e f g h = rw (h, e, f, g, trailing-where c free l.pointee, trailing-where c true l.own)
+level-is c free signed space on l e h = rw (h, e)
 
 -- All levels: the first, then the others.
-pub levels-more : (c : Settings) (free signed : Bool) (l : Level) (ls : List Level) → levels c free signed (l ∷ ls) ≡ level_text c free signed l ++ levels c true (not (shows_any c l.own)) ls
-unfolding levels level_text spaced
+pub levels-more : (c : Settings) (free signed : Bool) (l : Level) (ls : List Level) → levels c free signed (l ∷ ls) ≡ level_text c free signed l ++ levels c true (not l.constant) ls
+unfolding levels level_text const_text spaced
 levels-more c free signed l ls = simp append_assoc
 
 module _ (c : Settings) (free signed : Bool) (items : List ℕ) (i : ℕ) where
   levels-next : (l : PtrAttributes) → i < length items → level_of l ≡ level_at (get_or items i 0)
       → levels c free signed (map level_at (drop i items))
-      ≡ level_text c free signed (level_of l) ++ levels c true (not (shows_any c (level_of l).own)) (map level_at (drop (i + 1) items))
+      ≡ level_text c free signed (level_of l) ++ levels c true (not l.constant) (map level_at (drop (i + 1) items))
   levels-next l h e = rw (add-one, drop-cons items i 0 h, ← e) (levels-more c free signed (level_of l) _)
 
   -- A turn of a loop over the levels, and its end.
-  pub levels-turn : (l : PtrAttributes) (marked : Bool) (all : List ℕ) (g h : Page) (k : PageRead) → i < length items → level_of l ≡ level_at (get_or items i 0)
-      → marked ≡ shows_any c (level_of l).own
+  pub levels-turn : (l : PtrAttributes) (all : List ℕ) (g h : Page) (k : PageRead) → i < length items → level_of l ≡ level_at (get_or items i 0)
       → ink (read_page g) (levels c free signed (map level_at (drop i items))) ≡ ink k all
       → Wrote g (writing (level_text c free signed (level_of l))) h
-      → ink (read_page h) (levels c true (not marked) (map level_at (drop (i + 1) items))) ≡ ink k all
-  levels-turn l marked all g h k lt d m e w =
-      rw (m, w.is, run-say) (ink-append (level_text c free signed (level_of l)) (read_page g) _ ∙ ap (ink (read_page g)) (sym (levels-next l lt d)) ∙ e)
+      → ink (read_page h) (levels c true (not l.constant) (map level_at (drop (i + 1) items))) ≡ ink k all
+  levels-turn l all g h k lt d e w =
+      rw (w.is, run-say) (ink-append (level_text c free signed (level_of l)) (read_page g) _ ∙ ap (ink (read_page g)) (sym (levels-next l lt d)) ∙ e)
 
   pub levels-end : (all : List ℕ) (g k : Page) → length items ≤ i → ink (read_page g) (levels c free signed (map level_at (drop i items))) ≡ ink (read_page k) all → Wrote k (writing all) g
   unfolding levels

@@ -1,17 +1,14 @@
-// The marks of modifiers and pointers, and the signs of the pointers on the way to a type.
-ghost use Rattle.std.specs.Prelude.{◌≡◌, true, []};
-ghost use Rattle.wire.specs.Field.{pick};
-ghost use Rattle.wire.specs.Text.{bytes};
-ghost use Rattle.rules.specs.Text.{shows_volatile, shows_any, leading, trailing, sign, levels};
+// The signs of the pointers on the way to a type.
+ghost use Rattle.std.specs.Prelude.{◌≡◌};
+ghost use Rattle.rules.specs.Text.{sign, levels};
 ghost use Rattle.pen.specs.Page.{page, Wrote, writing};
-ghost use Rattle.context.specs.Context.{settings_of, attributes_of, level_of, levels_of};
-ghost use Rattle.leaf_writers.specs.Signs.{spaced, level_text};
+ghost use Rattle.context.specs.Context.{settings_of, level_of, levels_of};
+ghost use Rattle.leaf_writers.specs.Signs.{const_text, spaced, level_text};
 
-use crate::fragments::{both, either};
-use crate::settings::{show_volatile, space_pointer, text_if};
+use crate::settings::{space_pointer, text_if};
 use codeview::record::PointerMode;
 use context::flags::Call;
-use context::levels::{Attributes, Levels, PtrAttributes, unpack};
+use context::levels::{Levels, PtrAttributes, unpack};
 use pen::Pen;
 
 fn emit_sign(out: &mut [u8], p: Pen, mode: PointerMode) -> Pen
@@ -26,91 +23,22 @@ fn emit_sign(out: &mut [u8], p: Pen, mode: PointerMode) -> Pen
     }
 }
 
-// Whether the volatile mark is written.
-fn shows_volatile(call: Call, a: Attributes) -> bool
-    ensures { result ≡ shows_volatile (settings_of call) (attributes_of a) }
-{
-    if a.volatile {
-        return show_volatile(call);
-    }
-    false
-}
-
-// Whether any mark is written.
-pub fn shows_any(call: Call, a: Attributes) -> bool
-    ensures { result ≡ shows_any (settings_of call) (attributes_of a) }
-{
-    if a.constant {
-        return true;
-    }
-    shows_volatile(call, a)
-}
-
-// `const`, or nothing; with a space before it where one may stand (`free`).
-fn emit_const(out: &mut [u8], p: Pen, b: bool, free: bool) -> Pen
-    ensures { Wrote (page out.old p) (writing (pick b (pick free (bytes " const") (bytes "const")) [])) (page out.new result) }
+// The const of what is pointed to; `free` where a space may stand.
+fn emit_const(out: &mut [u8], p: Pen, constant: bool, free: bool) -> Pen
+    ensures { Wrote (page out.old p) (writing (const_text constant free)) (page out.new result) }
 {
     if free {
-        return text_if(out, p, b, b" const");
+        return text_if(out, p, constant, b" const");
     }
-    text_if(out, p, b, b"const")
-}
-
-// The same with `volatile`.
-fn emit_volatile(out: &mut [u8], p: Pen, b: bool, free: bool) -> Pen
-    ensures { Wrote (page out.old p) (writing (pick b (pick free (bytes " volatile") (bytes "volatile")) [])) (page out.new result) }
-{
-    if free {
-        return text_if(out, p, b, b" volatile");
-    }
-    text_if(out, p, b, b"volatile")
-}
-
-// The marks of a modifier that leads.
-pub fn emit_leading(out: &mut [u8], p: Pen, call: Call, a: Attributes) -> Pen
-    ensures { Wrote (page out.old p) (writing (leading (settings_of call) (attributes_of a))) (page out.new result) }
-{
-    let volatile = shows_volatile(call, a);
-    let q = text_if(out, p, a.constant, b"const ");
-    text_if(out, q, volatile, b"volatile ")
-}
-
-// The marks behind what they are of: the first is spaced where a space may stand, the second always.
-fn emit_trailing(out: &mut [u8], p: Pen, call: Call, free: bool, a: Attributes) -> Pen
-    ensures { Wrote (page out.old p) (writing (trailing (settings_of call) free (attributes_of a))) (page out.new result) }
-{
-    let volatile = shows_volatile(call, a);
-    let apart = either(free, a.constant);
-    let q = emit_const(out, p, a.constant, free);
-    emit_volatile(out, q, volatile, apart)
-}
-
-// The same, or nothing: where no mark is to be written the pen need not be handed on.
-pub fn trail_if(out: &mut [u8], p: Pen, call: Call, b: bool, free: bool, a: Attributes) -> Pen
-    ensures { Wrote (page out.old p) (writing (pick b (trailing (settings_of call) free (attributes_of a)) [])) (page out.new result) }
-{
-    if b {
-        return emit_trailing(out, p, call, free, a);
-    }
-    p
-}
-
-// The marks that close a method's text, where they may.
-pub fn emit_closing(out: &mut [u8], p: Pen, call: Call, closes: bool, a: Attributes) -> Pen
-    ensures { Wrote (page out.old p) (writing (pick closes (trailing (settings_of call) true (attributes_of a)) [])) (page out.new result) }
-{
-    if both(closes, shows_any(call, a)) {
-        return emit_trailing(out, p, call, true, a);
-    }
-    p
+    text_if(out, p, constant, b"const")
 }
 
 // Whether a space stands before a sign: not behind another sign, and not where none may stand.
-fn is_spaced(space: bool, free: bool, signed: bool, marked: bool) -> bool
-    ensures { result ≡ spaced space free signed marked }
+fn is_spaced(space: bool, free: bool, signed: bool, pointee: bool) -> bool
+    ensures { result ≡ spaced space free signed pointee }
 {
     if space {
-        if marked {
+        if pointee {
             return true;
         }
         if signed {
@@ -124,15 +52,13 @@ fn is_spaced(space: bool, free: bool, signed: bool, marked: bool) -> bool
 fn emit_level(out: &mut [u8], p: Pen, call: Call, free: bool, signed: bool, l: PtrAttributes) -> Pen
     ensures { Wrote (page out.old p) (writing (level_text (settings_of call) free signed (level_of l))) (page out.new result) }
 {
-    let own = l.own;
     let pointee = l.pointee;
-    let mode = l.mode;
-    let marked = shows_any(call, pointee);
-    let a = trail_if(out, p, call, marked, free, pointee);
-    let s = is_spaced(space_pointer(call), free, signed, marked);
+    let a = emit_const(out, p, pointee, free);
+    let s = is_spaced(space_pointer(call), free, signed, pointee);
     let b = text_if(out, a, s, b" ");
+    let mode = l.mode;
     let c = emit_sign(out, b, mode);
-    trail_if(out, c, call, shows_any(call, own), true, own)
+    text_if(out, c, l.constant, b" const")
 }
 
 // All levels, the innermost first.
@@ -153,10 +79,9 @@ pub fn emit_attributes(
     let mut i = o.left;
     while i < 96 {
         let l = unpack(items[i]);
-        let own = l.own;
         q = emit_level(out, q, call, f, s, l);
         f = true;
-        s = !shows_any(call, own);
+        s = !l.constant;
         i += 1;
     }
     q

@@ -1,48 +1,35 @@
 // Primitives, and what has a name behind the word for its kind.
-ghost use Rattle.std.specs.Prelude.{◌≡◌, []};
-ghost use Rattle.wire.specs.Field.{pick};
+ghost use Rattle.std.specs.Prelude.{◌≡◌};
 ghost use Rattle.utf8.specs.Utf8.{shown};
-ghost use Rattle.rules.specs.Text.{leading, primitive_text, class_text};
+ghost use Rattle.rules.specs.Text.{primitive_text, class_text};
 ghost use Rattle.pen.specs.Page.{page, Wrote, writing};
-ghost use Rattle.context.specs.Context.{settings_of, attributes_of};
+ghost use Rattle.context.specs.Context.{settings_of};
 ghost use Rattle.leaf_writers.specs.Signs.{behind_word, class_word};
 
-use crate::attributes::{emit_leading, shows_any, trail_if};
 use crate::fragments::both;
 use crate::names::{emit_kind, emit_shown};
 use crate::settings::{name_only, space_pointer, text_if};
 use codeview::record::ClassKind;
 use context::flags::Call;
-use context::levels::Attributes;
 use pen::Pen;
 
-// The marks before a primitive, where it is not pointed to and has any to write.
-fn lead_if(out: &mut [u8], p: Pen, call: Call, leads: bool, a: Attributes) -> Pen
-    ensures { Wrote (page out.old p) (writing (pick leads (leading (settings_of call) (attributes_of a)) [])) (page out.new result) }
-{
-    if both(leads, shows_any(call, a)) {
-        return emit_leading(out, p, call, a);
-    }
-    p
-}
-
-// A primitive with the marks of its modifier: before the name, or behind it where it is pointed to.
+// A primitive with the const of its modifier: before the name, or behind it where it is pointed to.
 pub fn emit_primitive(
     out: &mut [u8],
     p: Pen,
     call: Call,
-    a: Attributes,
+    constant: bool,
     code: u8,
     indirection: u32,
 ) -> Pen
-    ensures { Wrote (page out.old p) (writing (primitive_text (settings_of call) (attributes_of a) code indirection)) (page out.new result) }
+    ensures { Wrote (page out.old p) (writing (primitive_text (settings_of call) constant code indirection)) (page out.new result) }
 {
-    let q = lead_if(out, p, call, indirection == 0, a);
+    let q = text_if(out, p, both(indirection == 0, constant), b"const ");
     let k = emit_kind(out, q, code);
     if indirection == 0 {
         return k;
     }
-    let r = trail_if(out, k, call, shows_any(call, a), true, a);
+    let r = text_if(out, k, constant, b" const");
     let t = text_if(out, r, space_pointer(call), b" ");
     pen::text(out, t, b"*")
 }

@@ -46,12 +46,6 @@ pub fn no_arguments(call: Call) -> bool
     call.flags.intersects(TypeFormatterFlags::NO_ARGUMENTS)
 }
 
-pub fn show_volatile(call: Call) -> bool
-    ensures { result ≡ (settings_of call).show_volatile }
-{
-    call.flags.intersects(TypeFormatterFlags::SHOW_VOLATILE)
-}
-
 // A text, or nothing.
 pub fn text_if(out: &mut [u8], p: Pen, b: bool, s: &[u8]) -> Pen
     ensures { Wrote (page out.old p) (writing (pick b s.now [])) (page out.new result) }

@@ -19,7 +19,6 @@ use Rattle.codeview.specs.contracts.record.TypeData.{the_type}
 use Rattle.codeview.proofs.Tags.{by-tag}
 use Rattle.rules.specs.Flags.{Settings}
 use Rattle.rules.specs.Record.{
-  Attributes,
   Record,
   pointer,
   modifier,
@@ -39,12 +38,11 @@ use Rattle.rules.specs.Record.{
   type_contents,
   type_as_read,
 }
-use Rattle.rules.specs.Text.{unmarked}
 use Rattle.rules.specs.Task.{Rule, inside}
 use Rattle.rules.specs.Methods.{this_pointer}
 use Rattle.queries.specs.declared.this.ThisRead.{ThisRead}
 use Rattle.queries.specs.declared.this.ThisRead.TheVariants.{Given, Other, Refused}
-use Rattle.queries.specs.This.{reading, marks_of, through_modifier, pointee_of, this_of, by_this}
+use Rattle.queries.specs.This.{reading, through_modifier, pointee_of, this_of, by_this}
 
 -- A reading by what `type_at` gives.
 pub read-good : (s : List ℕ) (r q : TypeRead) (t : TypeData) → r ≡ q → r ≡ type_read.Good t → type_as_read s q ≡ good (type_contents s t)
@@ -72,7 +70,7 @@ unfolding type_contents
 no_pointer s t f = by-tag not_pointer (λ t. pointer_or (type_contents s t) (λ u mode a size. f u) Other ≡ Other) (search) t
 
 -- What is pointed to, by case.
-pub pointee-same : (types : ℕ → Read Record) (u class : ℕ) → u ≡ class → Given (marks_of unmarked) ≡ pointee_of types u class
+pub pointee-same : (types : ℕ → Read Record) (u class : ℕ) → u ≡ class → Given false ≡ pointee_of types u class
 unfolding pointee_of
 pointee-same types u class h = rw (eq-eqb _ _ h)
 
@@ -82,7 +80,7 @@ unfolding pointee_of reading
 pointee-other s types u class t h e n = rw (ne_eqb _ _ h, e) (sym (no-modifier s class t n))
 
 pub pointee-given : (s : List ℕ) (types : ℕ → Read Record) (u class : ℕ) (t : TypeData) (m : ModifierType) → (u ≡ class → ⊥)
-    → types u ≡ good (type_contents s t) → t ≡ type.Modifier m → m.underlying.0 ≡ class → Given (record { constant = m.constant; volatile = m.volatile }) ≡ pointee_of types u class
+    → types u ≡ good (type_contents s t) → t ≡ type.Modifier m → m.underlying.0 ≡ class → Given m.constant ≡ pointee_of types u class
 unfolding pointee_of reading through_modifier type_contents
 pointee-given s types u class t m h e k g = rw (ne_eqb _ _ h, e, k, eq-eqb _ _ g)
 
@@ -97,7 +95,7 @@ unfolding pointee_of reading
 pointee-unread types u class f h e = rw (ne_eqb _ _ h, e)
 
 -- The this pointer, by case.
-pub this-none : (types : ℕ → Read Record) (this class : ℕ) → this ≡ 0 → Given (marks_of unmarked) ≡ this_of types this class
+pub this-none : (types : ℕ → Read Record) (this class : ℕ) → this ≡ 0 → Given false ≡ this_of types this class
 unfolding this_of
 this-none types this class h = rw (eq-eqb _ _ h)
 
@@ -117,21 +115,21 @@ unfolding this_of reading
 this-unread types this class f h e = rw (ne_eqb _ _ h, e)
 
 -- What follows goes through a choice and through a reading.
-picked : (b : Bool) (x y : ThisRead) (p q : Rule) (k : Bool → Attributes → Rule) → p ≡ by_this x k → q ≡ by_this y k → pick b p q ≡ by_this (pick b x y) k
+picked : (b : Bool) (x y : ThisRead) (p q : Rule) (k : Bool → Bool → Rule) → p ≡ by_this x k → q ≡ by_this y k → pick b p q ≡ by_this (pick b x y) k
 picked true x y p q k g h = g
 picked false x y p q k g h = h
 
-inside_is : (r : Read Record) (f : Record → Rule) (g : Record → ThisRead) (k : Bool → Attributes → Rule) → ((q : Record) → f q ≡ by_this (g q) k)
+inside_is : (r : Read Record) (f : Record → Rule) (g : Record → ThisRead) (k : Bool → Bool → Rule) → ((q : Record) → f q ≡ by_this (g q) k)
     → inside r f ≡ by_this (reading r g) k
 unfolding reading by_this
 inside_is (good q) f g k h = h q
 inside_is (bad e) f g k h = refl
 
-modified-is : (class : ℕ) (k : Bool → Attributes → Rule) (q : Record)
-    → modifier_or q (λ v b. pick (eqb v class) (k false b) (k true unmarked)) (k true unmarked) ≡ by_this (through_modifier class q) k
+modified-is : (class : ℕ) (k : Bool → Bool → Rule) (q : Record)
+    → modifier_or q (λ v b. pick (eqb v class) (k false b.constant) (k true false)) (k true false) ≡ by_this (through_modifier class q) k
 unfolding through_modifier by_this
 modified-is class k (pointer t m a z) = refl
-modified-is class k (modifier v b) = picked (eqb v class) (Given (marks_of b)) Other _ _ k refl refl
+modified-is class k (modifier v b) = picked (eqb v class) (Given b.constant) Other _ _ k refl refl
 modified-is class k (procedure r c a) = refl
 modified-is class k (method m) = refl
 modified-is class k (arguments l) = refl
@@ -139,16 +137,16 @@ modified-is class k (array e b) = refl
 modified-is class k (primitive c d) = refl
 modified-is class k (named x) = refl
 
-pointee-is : (types : ℕ → Read Record) (u class : ℕ) (k : Bool → Attributes → Rule)
-    → pick (eqb u class) (k false unmarked) (inside (types u) (λ q. modifier_or q (λ v b. pick (eqb v class) (k false b) (k true unmarked)) (k true unmarked)))
+pointee-is : (types : ℕ → Read Record) (u class : ℕ) (k : Bool → Bool → Rule)
+    → pick (eqb u class) (k false false) (inside (types u) (λ q. modifier_or q (λ v b. pick (eqb v class) (k false b.constant) (k true false)) (k true false)))
     ≡ by_this (pointee_of types u class) k
 unfolding pointee_of by_this
-pointee-is types u class k = picked (eqb u class) (Given (marks_of unmarked)) _ _ _ k refl (inside_is (types u) _ (through_modifier class) k (modified-is class k))
+pointee-is types u class k = picked (eqb u class) (Given false) _ _ _ k refl (inside_is (types u) _ (through_modifier class) k (modified-is class k))
 
-pointer_is : (types : ℕ → Read Record) (class : ℕ) (k : Bool → Attributes → Rule) (r : Record)
+pointer_is : (types : ℕ → Read Record) (class : ℕ) (k : Bool → Bool → Rule) (r : Record)
     → pointer_or r
-    (λ u mode a size. pick (eqb u class) (k false unmarked) (inside (types u) (λ q. modifier_or q (λ v b. pick (eqb v class) (k false b) (k true unmarked)) (k true unmarked))))
-    (k true unmarked)
+    (λ u mode a size. pick (eqb u class) (k false false) (inside (types u) (λ q. modifier_or q (λ v b. pick (eqb v class) (k false b.constant) (k true false)) (k true false))))
+    (k true false)
     ≡ by_this (pointer_or r (λ u mode a size. pointee_of types u class) Other) k
 unfolding by_this
 pointer_is types class k (pointer u m a z) = pointee-is types u class k
@@ -161,8 +159,8 @@ pointer_is types class k (primitive c d) = refl
 pointer_is types class k (named x) = refl
 
 -- The rule of the this pointer is what follows from the answer.
-pub this-is : (c : Settings) (t : Table) (m : Method) (k : Bool → Attributes → Rule) → this_pointer c t m k ≡ by_this (this_of t.types m.this m.class) k
+pub this-is : (c : Settings) (t : Table) (m : Method) (k : Bool → Bool → Rule) → this_pointer c t m k ≡ by_this (this_of t.types m.this m.class) k
 unfolding this_pointer this_of by_this
 this-is c t m k =
-    picked (eqb m.this 0) (Given (marks_of unmarked)) _ _ _ k refl
+    picked (eqb m.this 0) (Given false) _ _ _ k refl
     (inside_is (t.types m.this) _ (λ r. pointer_or r (λ u mode a size. pointee_of t.types u m.class) Other) k (pointer_is t.types m.class k))

@@ -5,36 +5,30 @@ ghost use Rattle.codeview.specs.Read.{read_type_in};
 ghost use Rattle.queries.specs.This.{pointee_of, this_of};
 
 use codeview::index::TypeIndex;
-use codeview::record::{PointerType, TypeData, TypeRead};
+use codeview::record::{TypeData, TypeRead};
 use codeview::types::type_at;
-use context::levels::Attributes;
 use streams::refusal::Refusal;
 
-// What a this pointer is: one to the given class (with the marks of the class), another type, or one that could not be read.
+// What a this pointer is: one to the given class (and whether the class is const), another type, or one that could not be read.
 #[derive(Drop)]
 pub enum ThisRead {
-    Given(Attributes),
+    Given(bool),
     Other,
     Refused(Refusal),
 }
 
-// What a this pointer points to: the class, or a modifier of it. Its own marks say nothing of the class.
+// What is pointed to: the class, or a modifier of it.
 fn of_pointee(
     types: &[u8],
     bounds: &[u32],
     places: &[u32],
-    p: PointerType,
+    pointee: TypeIndex,
     class: TypeIndex,
 ) -> ThisRead
-    ensures { result ≡ pointee_of (λ i. type_as_read types.now (read_type_in types.now bounds.now places.now i)) p.underlying.0 class.0 }
+    ensures { result ≡ pointee_of (λ i. type_as_read types.now (read_type_in types.now bounds.now places.now i)) pointee.0 class.0 }
 {
-    let pointee = p.underlying;
     if pointee.0 == class.0 {
-        let bare = Attributes {
-            constant: false,
-            volatile: false,
-        };
-        return ThisRead::Given(bare);
+        return ThisRead::Given(false);
     }
     match type_at(types, bounds, places, pointee) {
         TypeRead::Good(t) => {
@@ -42,11 +36,7 @@ fn of_pointee(
                 return ThisRead::Other;
             };
             if m.underlying.0 == class.0 {
-                let marks = Attributes {
-                    constant: m.constant,
-                    volatile: m.volatile,
-                };
-                return ThisRead::Given(marks);
+                return ThisRead::Given(m.constant);
             }
             ThisRead::Other
         }
@@ -65,18 +55,15 @@ pub fn check_ptr_class(
     ensures { result ≡ this_of (λ i. type_as_read types.now (read_type_in types.now bounds.now places.now i)) this.0 class.0 }
 {
     if this.0 == 0 {
-        let none = Attributes {
-            constant: false,
-            volatile: false,
-        };
-        return ThisRead::Given(none);
+        return ThisRead::Given(false);
     }
     match type_at(types, bounds, places, this) {
         TypeRead::Good(t) => {
             let TypeData::Pointer(p) = t else {
                 return ThisRead::Other;
             };
-            of_pointee(types, bounds, places, p, class)
+            let pointee = p.underlying;
+            of_pointee(types, bounds, places, pointee, class)
         }
         TypeRead::Refused(f) => ThisRead::Refused(f),
     }

@@ -22,15 +22,15 @@ use Rattle.codeview.specs.Record.{bit, names, entries, pointer_mode, containing,
 use Rattle.codeview.specs.Read.{primitive_of, type_from}
 use Rattle.interpreter.specs.Trace.{exec, is_open, opening, run, need, walk, held}
 use Rattle.rules.specs.Flags.{settings, sized, flagged}
-use Rattle.rules.specs.Record.{Attributes, Method, class, Record, pointer, modifier, procedure, method, arguments, array, primitive, named, IdRecord, function, member_function, Read, good, bad, Table, name_at, shown_at, numbers_at, match_name, type_contents, type_as_read, table_of}
-use Rattle.rules.specs.Text.{digit, numeral, hex, decimal, missing_mark, unimplemented_mark, function_name, primitive_name, primitive_size, joined, shows_volatile, shows_any, leading, trailing, primitive_text, worded, class_text, over_pointee, sign, levels, ends_signed, bracket, brackets, same_bytes}
-use Rattle.rules.specs.Task.{Task, by_itself, function_of, size_of, id_of, separated, unread, marked, value_of}
+use Rattle.rules.specs.Record.{Attributes, Method, class, Record, pointer, modifier, procedure, method, arguments, array, primitive, named, IdRecord, function, Read, good, bad, Table, name_at, shown_at, numbers_at, match_name, type_contents, type_as_read, table_of}
+use Rattle.rules.specs.Text.{digit, numeral, hex, decimal, missing_mark, unimplemented_mark, function_name, primitive_name, primitive_size, primitive_text, worded, class_text, over_pointee, sign, levels, ends_signed, bracket, brackets, same_bytes}
+use Rattle.rules.specs.Task.{Task, by_itself, size_of, id_of, separated, unread, marked, value_of}
 use Rattle.rules.specs.Types.{comma, result, procedure_result, returned, method_arguments, procedure_arguments, named_text, type_text, alone}
 use Rattle.rules.specs.Pointers.{pointed, aimed, aimed_again, modified_text}
 use Rattle.rules.specs.Methods.{method_text, this_pointer, method_list, static_mark, method_named, procedure_named}
 use Rattle.rules.specs.Arrays.{base_text, element_text}
 use Rattle.rules.specs.Sizes.{full_layout, full_named, full_or, full_size, layout_size, named_size, record_size, size_step}
-use Rattle.rules.specs.Ids.{scope_text, function_id_text, member_id_text, id_text, id_alone, function_text}
+use Rattle.rules.specs.Ids.{scope_text, function_id_text, id_text, id_alone, function_text}
 use Rattle.rules.specs.Opening.{after_read, same_index, rank, entry_of, body, walked, plainly}
 use Rattle.rules.specs.Call.{Outcome, text, stopped, answer, within, whole, over_types, function_reading, type_reading as typeReading₀, size_reading, size_outcome, size_answer, Size, unsized}
 use Rattle.rules.specs.Call as calls
@@ -38,7 +38,7 @@ use Rattle.rules.specs.Measure.{Measure, measured, unmeasured, measure_of, funct
 
 -- A line `unfolding computing` opens every definition that a case computes with.
 unfoldable computing : Unit {0}
-unfolding scope_text function_id_text member_id_text id_text id_alone number field size_width value_width width_of payload leaf zero_from name_end name indexes header behind passed tiled checked record_at walk_from look_from part primitives first_of bit names entries pointer_mode containing member_class modifier_of pointer_of procedure_of member_function_of argument_list_of enumerate_of array_of class_of union_of enumeration_of type_of primitive_of type_from exec is_open opening run need walk settings sized flagged is_in table behind_in behind_byte fitting is_whole reach shown_part shown_past shown_bytes name_at shown_at numbers_at match_name type_contents type_as_read table_of digit numeral hex decimal missing_mark unimplemented_mark function_name primitive_name primitive_size joined shows_volatile shows_any leading trailing primitive_text worded class_text over_pointee sign levels ends_signed bracket brackets same_bytes unread marked value_of full_layout full_named full_or result procedure_result returned method_arguments procedure_arguments separated comma named_text type_text alone pointed aimed aimed_again modified_text method_text this_pointer method_list base_text element_text full_size layout_size named_size record_size size_step static_mark method_named procedure_named function_text after_read same_index rank entry_of body walked answer within whole over_types function_reading typeReading₀ size_reading size_outcome size_answer calls.function_outcome calls.type_outcome
+unfolding scope_text function_id_text id_text id_alone number field size_width value_width width_of payload leaf zero_from name_end name indexes header behind passed tiled checked record_at walk_from look_from part primitives first_of bit names entries pointer_mode containing member_class modifier_of pointer_of procedure_of member_function_of argument_list_of enumerate_of array_of class_of union_of enumeration_of type_of primitive_of type_from exec is_open opening run need walk settings sized flagged is_in table behind_in behind_byte fitting is_whole reach shown_part shown_past shown_bytes name_at shown_at numbers_at match_name type_contents type_as_read table_of digit numeral hex decimal missing_mark unimplemented_mark function_name primitive_name primitive_size primitive_text worded class_text over_pointee sign levels ends_signed bracket brackets same_bytes unread marked value_of full_layout full_named full_or result procedure_result returned method_arguments procedure_arguments separated comma named_text type_text alone pointed aimed aimed_again modified_text method_text this_pointer method_list base_text element_text full_size layout_size named_size record_size size_step static_mark method_named procedure_named function_text after_read same_index rank entry_of body walked answer within whole over_types function_reading typeReading₀ size_reading size_outcome size_answer calls.function_outcome calls.type_outcome
 computing = tt
 
 -- Fields, records and a stream, as bytes.
@@ -311,122 +311,3 @@ counted =
 pub counted-cases : map (λ c. c.given) counted ≡ map (λ c. c.wanted) counted
 unfolding computing measure_of type_measure function_measure
 counted-cases = refl
-
--- Document 02, Note 6: SHOW_VOLATILE (0x40), and with SPACE_BEFORE_POINTER (0x48), at each place where a const can stand.
-abbrev vol : Attributes
-vol = record { constant = false; volatile = true }
-
-abbrev both : Attributes
-both = record { constant = true; volatile = true }
-
-abbrev modify : Attributes → ℕ → Record
-modify a i = modifier i a
-
-abbrev to_by : Attributes → ℕ → Record
-to_by a i = pointer i mode.Pointer a 8
-
-abbrev read_by : ℕ → List Record → List IdRecord → Task → Shown
-read_by flags rs ds x = shown (within 1000 (walked (settings flags 8) (tables rs ds) (held 0 []) x))
-
-abbrev typed_by : ℕ → List Record → Shown
-typed_by flags rs = read_by flags rs [] (by_itself 0x1000)
-
-abbrev function_by : ℕ → List Record → Shown
-function_by flags rs = read_by flags rs [] (function_of 0x1000 (bytes "f"))
-
-abbrev member_by : ℕ → List Record → Shown
-member_by flags rs = read_by flags rs (member_function 0x1002 0x1000 (bytes "f") ∷ []) (id_of 0x1000)
-
--- A pointer by way of a modifier; to a procedure; to a method of A; a method of A with a this pointer, and what that points to.
-abbrev over_struct : Attributes → List Record
-over_struct a = to 0x1001 ∷ modify a 0x1002 ∷ struct "A" false 4 ∷ []
-
-abbrev over_procedure : Attributes → List Record
-over_procedure a = to 0x1001 ∷ modify a 0x1002 ∷ procedure 0x3 false 0x1003 ∷ arguments (0x74 ∷ []) ∷ []
-
-abbrev over_method : Attributes → List Record
-over_method a =
-    pointer 0x1001 mode.MemberFunction (plain_marks false) 8 ∷ modify a 0x1002 ∷ plain_method 0 0x1004 0x1003 ∷ arguments (0x74 ∷ []) ∷ struct "A" false 4 ∷ []
-
-abbrev over_pointer : Attributes → List Record
-over_pointer a = to 0x1001 ∷ modify a 0x1002 ∷ to 0x74 ∷ []
-
-abbrev with_this : Attributes → List Record → List Record
-with_this a rs = plain_method 0x1003 0x1002 0x1001 ∷ arguments (0x74 ∷ []) ∷ struct "A" false 4 ∷ to_by a 0x1004 ∷ rs
-
-abbrev pub volatile_marks : List Case
-volatile_marks =
-    -- a modifier over a primitive, without and with indirection
-    (typed_by 0x40 (modify vol 0x74 ∷ []) ⇒ written (bytes "volatile int")) ∷
-    (typed_by 0x40 (modify both 0x74 ∷ []) ⇒ written (bytes "const volatile int")) ∷
-    (typed_by 0x40 (modify vol 0x1001 ∷ primitive 0x74 6 ∷ []) ⇒ written (bytes "int volatile*")) ∷
-    (typed_by 0x40 (modify both 0x1001 ∷ primitive 0x74 6 ∷ []) ⇒ written (bytes "int const volatile*")) ∷
-    (typed_by 0x48 (modify vol 0x1001 ∷ primitive 0x74 6 ∷ []) ⇒ written (bytes "int volatile *")) ∷
-    (typed_by 0x48 (modify both 0x1001 ∷ primitive 0x74 6 ∷ []) ⇒ written (bytes "int const volatile *")) ∷
-    -- over a pointer, or the pointer's own marks
-    (typed_by 0x40 (modify vol 0x1001 ∷ to 0x74 ∷ []) ⇒ written (bytes "int* volatile")) ∷
-    (typed_by 0x40 (modify both 0x1001 ∷ to 0x74 ∷ []) ⇒ written (bytes "int* const volatile")) ∷
-    (typed_by 0x40 (to_by vol 0x74 ∷ []) ⇒ written (bytes "int* volatile")) ∷
-    (typed_by 0x40 (to_by both 0x74 ∷ []) ⇒ written (bytes "int* const volatile")) ∷
-    -- over any other type
-    (typed_by 0x40 (modify vol 0x1001 ∷ struct "A" false 4 ∷ []) ⇒ written (bytes "volatile struct A")) ∷
-    (typed_by 0x40 (modify both 0x1001 ∷ struct "A" false 4 ∷ []) ⇒ written (bytes "const volatile struct A")) ∷
-    -- a pointer's modifier over a type
-    (typed_by 0x40 (over_struct vol) ⇒ written (bytes "struct A volatile*")) ∷
-    (typed_by 0x40 (over_struct both) ⇒ written (bytes "struct A const volatile*")) ∷
-    (typed_by 0x48 (over_struct vol) ⇒ written (bytes "struct A volatile *")) ∷
-    (typed_by 0x48 (over_struct both) ⇒ written (bytes "struct A const volatile *")) ∷
-    -- over a procedure: no space at the beginning of the signs
-    (typed_by 0x40 (over_procedure vol) ⇒ written (bytes "void (volatile*)(int)")) ∷
-    (typed_by 0x40 (over_procedure both) ⇒ written (bytes "void (const volatile*)(int)")) ∷
-    (typed_by 0x48 (over_procedure vol) ⇒ written (bytes "void (volatile *)(int)")) ∷
-    (typed_by 0x48 (over_procedure both) ⇒ written (bytes "void (const volatile *)(int)")) ∷
-    -- over a method
-    (typed_by 0x40 (over_method vol) ⇒ written (bytes "void (struct Avolatile::*)(int)")) ∷
-    (typed_by 0x40 (over_method both) ⇒ written (bytes "void (struct Aconst volatile::*)(int)")) ∷
-    (typed_by 0x48 (over_method vol) ⇒ written (bytes "void (struct Avolatile ::*)(int)")) ∷
-    (typed_by 0x48 (over_method both) ⇒ written (bytes "void (struct Aconst volatile ::*)(int)")) ∷
-    -- a pointer's own marks over a procedure
-    (typed_by 0x40 (to_by vol 0x1001 ∷ procedure 0x3 false 0x1002 ∷ arguments (0x74 ∷ []) ∷ []) ⇒ written (bytes "void (* volatile)(int)")) ∷
-    (typed_by 0x40 (to_by both 0x1001 ∷ procedure 0x3 false 0x1002 ∷ arguments (0x74 ∷ []) ∷ []) ⇒ written (bytes "void (* const volatile)(int)")) ∷
-    -- a pointer's modifier between pointers; behind its marks a sign has its space, behind a sign none
-    (typed_by 0x40 (over_pointer vol) ⇒ written (bytes "int* volatile*")) ∷
-    (typed_by 0x40 (over_pointer both) ⇒ written (bytes "int* const volatile*")) ∷
-    (typed_by 0x48 (over_pointer vol) ⇒ written (bytes "int * volatile *")) ∷
-    (typed_by 0x48 (to 0x1001 ∷ to 0x74 ∷ []) ⇒ written (bytes "int **")) ∷
-    -- a modifier adds to the marks of the pointer under it, none twice
-    (typed_by 0x40 (modify vol 0x1001 ∷ to_by (plain_marks true) 0x74 ∷ []) ⇒ written (bytes "int* const volatile")) ∷
-    (typed_by 0x40 (modify vol 0x1001 ∷ to_by vol 0x74 ∷ []) ⇒ written (bytes "int* volatile")) ∷
-    -- a pointer's modifier over a pointer: the marks of both, not merged
-    (typed_by 0x40 (to 0x1001 ∷ const 0x1002 ∷ to_by (plain_marks true) 0x74 ∷ []) ⇒ written (bytes "int* const const*")) ∷
-    (typed_by 0x40 (to 0x1001 ∷ modify both 0x1002 ∷ to_by both 0x74 ∷ []) ⇒ written (bytes "int* const volatile const volatile*")) ∷
-    -- two modifiers in a row
-    (typed_by 0x40 (modify vol 0x1001 ∷ const 0x1002 ∷ struct "A" false 4 ∷ []) ⇒ written (bytes "volatile const struct A")) ∷
-    (typed_by 0x40 (to 0x1001 ∷ modify vol 0x1002 ∷ const 0x1003 ∷ struct "A" false 4 ∷ []) ⇒ written (bytes "const struct A volatile*")) ∷
-    -- a method closes in the marks of the modifier under its this pointer, with a name and as a member id
-    (function_by 0x40 (with_this (plain_marks false) (modify vol 0x1002 ∷ [])) ⇒ written (bytes "void f(int) volatile")) ∷
-    (function_by 0x40 (with_this (plain_marks false) (modify both 0x1002 ∷ [])) ⇒ written (bytes "void f(int) const volatile")) ∷
-    (member_by 0x40 (with_this (plain_marks false) (modify vol 0x1002 ∷ [])) ⇒ written (bytes "void struct A::f(int) volatile")) ∷
-    -- not by the this pointer's own marks, not by a second modifier, not by itself, not under NO_ARGUMENTS
-    (function_by 0x40 (plain_method 0x1003 0x1002 0x1001 ∷ arguments (0x74 ∷ []) ∷ struct "A" false 4 ∷ to_by vol 0x1002 ∷ []) ⇒ written (bytes "void f(int)")) ∷
-    (function_by 0x40 (with_this vol (const 0x1002 ∷ [])) ⇒ written (bytes "void f(int) const")) ∷
-    (function_by 0x40 (with_this (plain_marks false) (modify vol 0x1005 ∷ const 0x1002 ∷ [])) ⇒ written (bytes "void f(const struct A volatile*,int)")) ∷
-    (typed_by 0x40 (with_this (plain_marks false) (modify vol 0x1002 ∷ [])) ⇒ written (bytes "void ()(int)")) ∷
-    (function_by 0x60 (with_this (plain_marks false) (modify vol 0x1002 ∷ [])) ⇒ written (bytes "void f")) ∷
-    -- a this pointer that became an argument has its marks
-    (function_by 0x40 (with_this (plain_marks false) (modify vol 0x1005 ∷ struct "B" false 4 ∷ [])) ⇒ written (bytes "void f(struct B volatile*,int)")) ∷
-    -- a missing record ends the innermost text alone
-    (typed_by 0x40 (modify vol 0x2000 ∷ []) ⇒ written (bytes "<missing type 0x2000>")) ∷
-    (typed_by 0x40 (modify vol 0x1001 ∷ modify vol 0x2000 ∷ []) ⇒ written (bytes "volatile <missing type 0x2000>")) ∷
-    -- without the flag no mark is written
-    (typed_by 0 (modify both 0x74 ∷ []) ⇒ written (bytes "const int")) ∷
-    (typed_by 8 (over_pointer vol) ⇒ written (bytes "int **")) ∷
-    -- "the new bit no longer gives 1", the next one does
-    (type 0x40 0x1004 64 ⇒ written (bytes "char const* const")) ∷
-    (type 0x80 0x1004 64 ⇒ refused_by 1 0x80) ∷
-    (type 0xC0 0x1004 64 ⇒ refused_by 1 0xC0) ∷
-    []
-
-pub volatile-cases : map (λ c. c.given) volatile_marks ≡ map (λ c. c.wanted) volatile_marks
-unfolding computing
-volatile-cases = refl

@@ -76,7 +76,7 @@ module _ (flags size : ℕ) (types : List ℕ) where
   tied-types : (x : Task) → Tied (over_types strictly flags size types x) (λ n. over_types (plain_to n) flags size types x)
   unfolding over_types flagged sized
   tied-types x =
-      tied-pick (ltb flags 128)
+      tied-pick (ltb flags 64)
       (tied-pick (eqb size 4 || (eqb size 8 || eqb size 16))
       (tied-whole (checked Types types) (λ t. tied-walk (settings flags size) (table_of types t [] none) x))
       (tied-refusal (refusal₀.PointerSize size)))
@@ -85,7 +85,7 @@ module _ (flags size : ℕ) (types : List ℕ) where
   tied-ids : (ids : List ℕ) (x : Task) → Tied (over_ids strictly flags size types ids x) (λ n. over_ids (plain_to n) flags size types ids x)
   unfolding over_ids flagged sized
   tied-ids ids x =
-      tied-pick (ltb flags 128)
+      tied-pick (ltb flags 64)
       (tied-pick (eqb size 4 || (eqb size 8 || eqb size 16))
       (tied-whole (checked Types types) (λ t. tied-whole (checked Ids ids) (λ u. tied-walk (settings flags size) (table_of types t ids u) x)))
       (tied-refusal (refusal₀.PointerSize size)))

@@ -22,8 +22,8 @@ use Rattle.record_places.specs.declared.PlacesCheck.TheVariants.{Right, Wrong}
 use Rattle.interpreter.specs.Trace.{Trace, tr, write, through, Held, held, walk}
 use Rattle.interpreter.proofs.Openings.{left, Paid, Hushed, Pays, pays-hushed, Spaced, paid-walk}
 use Rattle.rules.specs.Flags.{Settings, settings, sized, flagged}
-use Rattle.rules.specs.Record.{Attributes, Method, Named, class, union, enumeration, enumerate, kind_only, Record, pointer, modifier, procedure, method, arguments, array, primitive, named, IdRecord, function, member_function, strings, string, id_kind_only, Read, good, bad, Table, table_of}
-use Rattle.rules.specs.Text.{unmarked, Level}
+use Rattle.rules.specs.Record.{Method, Named, class, union, enumeration, enumerate, kind_only, Record, pointer, modifier, procedure, method, arguments, array, primitive, named, IdRecord, function, member_function, strings, string, id_kind_only, Read, good, bad, Table, table_of}
+use Rattle.rules.specs.Text.{Level}
 use Rattle.rules.specs.Task.{Task, by_itself, function_of, target, target_of_modifier, modified, list_of, element, size_of, id_of, function_id, member_id, Rule, texted, unread, marked, inside, separated}
 use Rattle.rules.specs.Types.{result, procedure_result, returned, method_arguments, procedure_arguments, comma, type_text, alone}
 use Rattle.rules.specs.Pointers.{pointed, aimed, aimed_again, modified_text}
@@ -165,16 +165,16 @@ module _ (k : ℕ) (low : k ≤ 3_200) (c : Settings) where
   unfolding Pays aimed_again
   pays-aimed-again ls r = pointer-or (P k 0) r _ _ (λ u m a n. omega arith) (pays-pointed ls r)
 
-  pays-modified : (b : Attributes) (r : Record) → P k 0 (modified_text c b r)
+  pays-modified : (b : Bool) (r : Record) → P k 0 (modified_text c b r)
   unfolding Pays modified_text
   pays-modified b r =
       pointer-or (P k 0) r _ _ (λ u m a n. omega arith)
       (primitive-or (P k 0) r _ _ (λ p n. omega arith) ((k, omega arith) and pays-texted (type_text c r) (pays-type r)))
 
-  pays-method-text : (m : Method) (closes : Bool) (l : List ℕ) (extra : Bool) (a : Attributes) → P k 0 (method_text c m closes l extra a)
+  pays-method-text : (m : Method) (closes : Bool) (l : List ℕ) (extra constant : Bool) → P k 0 (method_text c m closes l extra constant)
   unfolding Pays method_text
-  pays-method-text m closes l true a = (k, omega arith) and (0, omega arith) and (0, pays-others (comma c) l comma-long) and (0, omega arith) and omega arith
-  pays-method-text m closes l false a = (k, omega arith) and (k, omega arith) and (0, pays-separated (comma c) l comma-long) and (0, omega arith) and omega arith
+  pays-method-text m closes l true constant = (k, omega arith) and (0, omega arith) and (0, pays-others (comma c) l comma-long) and (0, omega arith) and omega arith
+  pays-method-text m closes l false constant = (k, omega arith) and (k, omega arith) and (0, pays-separated (comma c) l comma-long) and (0, omega arith) and omega arith
 
   pays-named-method : (m : Method) (p : Rule) (name : List ℕ) → P k k p → P k 0 (method_named c m p name)
   unfolding Pays method_named static_mark
@@ -213,16 +213,16 @@ module _ (k : ℕ) (low : k ≤ 3_200) (c : Settings) where
   pays-id (bad f) = pays-marked f
 
   module _ (t : Table) where
-    pays-this : (m : Method) (f : Bool → Attributes → Rule) → ((e : Bool) (x : Attributes) → P k 0 (f e x)) → P k 0 (this_pointer c t m f)
+    pays-this : (m : Method) (f : Bool → Bool → Rule) → ((e x : Bool) → P k 0 (f e x)) → P k 0 (this_pointer c t m f)
     unfolding this_pointer
     pays-this m f h =
-        either (P k 0) (eqb m.this 0) (f false unmarked) _ (h false unmarked)
+        either (P k 0) (eqb m.this 0) (f false false) _ (h false false)
         (pays-inside (t.types m.this) _
         (λ r. pointer-or (P k 0) r _ _
-        (λ u n a z. either (P k 0) (eqb u m.class) (f false unmarked) _ (h false unmarked)
+        (λ u n a z. either (P k 0) (eqb u m.class) (f false false) _ (h false false)
         (pays-inside (t.types u) _
-        (λ q. modifier-or (P k 0) q _ _ (λ x b. either (P k 0) (eqb x m.class) _ _ (h false b) (h true unmarked)) (h true unmarked))))
-        (h true unmarked)))
+        (λ q. modifier-or (P k 0) q _ _ (λ x b. either (P k 0) (eqb x m.class) _ _ (h false b.constant) (h true false)) (h true false))))
+        (h true false)))
 
     pays-list : (m : Method) (closes : Bool) (r : Record) → P k 0 (method_list c t m closes r)
     unfolding Pays method_list
@@ -280,7 +280,7 @@ few-pick false t u h k = k
 few-checks : (flags size : ℕ) (t : Trace Refusal) → Few t → Few (flagged flags (sized size t refusal) refusal)
 unfolding flagged sized
 few-checks flags size t h =
-    few-pick (ltb flags 128) _ _ (few-pick (eqb size 4 || (eqb size 8 || eqb size 16)) t _ h (omega arith)) (omega arith)
+    few-pick (ltb flags 64) _ _ (few-pick (eqb size 4 || (eqb size 8 || eqb size 16)) t _ h (omega arith)) (omega arith)
 
 few-whole : (r : StreamCheck) (k : Stream → Trace Refusal) → ((t : Stream) → Few (k t)) → Few (whole r k)
 unfolding whole

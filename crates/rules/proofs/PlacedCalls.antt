@@ -73,7 +73,7 @@ either-sized size {f} e = either-pick (eqb size 4 || (eqb size 8 || eqb size 16)
 
 either-flagged : (flags : ℕ) {f : Refusal} {s t : Trace Refusal} → Either f s t → Either f (flagged flags s refusal) (flagged flags t refusal)
 unfolding flagged
-either-flagged flags {f} e = either-pick (ltb flags 128) e (either-check f (UnknownFlags flags))
+either-flagged flags {f} e = either-pick (ltb flags 64) e (either-check f (UnknownFlags flags))
 
 module _ (flags size : ℕ) (types : List ℕ) (f : Refusal) where
   abbrev refusing : Settings → Table → Task → Trace Refusal

@@ -27,7 +27,7 @@ low (by_itself i) = omega arith
 low (function_of i name) = omega arith
 low (target i ls) = omega arith
 low (target_of_modifier i ls) = omega arith
-low (modified i a) = omega arith
+low (modified i constant) = omega arith
 low (list_of m closes) = omega arith
 low (element i sizes) = omega arith
 low (size_of i n) = omega arith
@@ -152,7 +152,7 @@ module _ (c : Settings) (t : Table) where
   falls (function_of (suc i) name) e = not_through (key 0 (suc i)) e
   falls (target i ls) e = not_through (key 2 i) e
   falls (target_of_modifier i ls) e = not_through (key 3 i) e
-  falls (modified i a) e = not_through (key 4 i) e
+  falls (modified i constant) e = not_through (key 4 i) e
   falls (list_of m closes) e = not_through (key 5 m.list) e
   falls (element i sizes) e = element-step i sizes (t.types i)
   falls (size_of i n) e = size_step_lem i n (t.types i)

@@ -32,8 +32,8 @@ use Rattle.utf8.proofs.Shown.{shown-well, all_ascii, well-append, well-ascii}
 use Rattle.interpreter.specs.Trace.{done, missing, refused, halted, again, deep, long, unfinished, End, Trace, tr, write, call, held, need, walk, strict}
 use Rattle.interpreter.proofs.Written.{Says, Holds, written}
 use Rattle.rules.specs.Flags.{Settings, settings, sized, flagged}
-use Rattle.rules.specs.Record.{Attributes, Method, Named, class, union, enumeration, enumerate, kind_only, Record, pointer, modifier, procedure, method, arguments, array, primitive, named, IdRecord, function, member_function, strings, string, id_kind_only, Read, good, bad, Table, name_at, shown_at, type_contents, id_contents, type_as_read, id_as_read, table_of}
-use Rattle.rules.specs.Text.{unmarked, Level, ends_signed}
+use Rattle.rules.specs.Record.{Method, Named, class, union, enumeration, enumerate, kind_only, Record, pointer, modifier, procedure, method, arguments, array, primitive, named, IdRecord, function, member_function, strings, string, id_kind_only, Read, good, bad, Table, name_at, shown_at, type_contents, id_contents, type_as_read, id_as_read, table_of}
+use Rattle.rules.specs.Text.{Level, ends_signed}
 use Rattle.rules.specs.Task.{Task, by_itself, function_of, target, target_of_modifier, modified, list_of, element, size_of, id_of, function_id, member_id, Rule, unless, texted, unread, marked, inside, separated}
 use Rattle.rules.specs.Types.{result, procedure_result, returned, method_arguments, procedure_arguments, comma, named_text, type_text, alone}
 use Rattle.rules.specs.Pointers.{pointed, aimed, aimed_again, modified_text}
@@ -43,7 +43,7 @@ use Rattle.rules.specs.Ids.{function_text, scope_text, function_id_text, member_
 use Rattle.rules.specs.Opening.{same_index, entry_of, body, rank, walked}
 use Rattle.rules.specs.Call.{text, stopped, answer, within, refusal, whole, over_types, over_ids, function_reading, id_reading, type_reading, strictly, function_outcome, id_outcome, type_outcome}
 use Rattle.rules.proofs.ByKind.{either, pointer-or, modifier-or, procedure-or, method-or, arguments-or, array-or, primitive-or}
-use Rattle.rules.proofs.WellTexts.{missing-well, unimplemented-well, unhandled-type-well, unhandled-scope-well, function-name-well, string-well, class-well, union-well, enum-well, enumerate-well, leading-well, closing-well, primitive-well, levels-well, brackets-well}
+use Rattle.rules.proofs.WellTexts.{missing-well, unimplemented-well, unhandled-type-well, unhandled-scope-well, function-name-well, string-well, class-well, union-well, enum-well, enumerate-well, primitive-well, levels-well, brackets-well}
 
 -- Records, readings, tables and tasks whose names are well-formed. A size step writes a number that is not shown; it is only asked for.
 unfoldable NamedWell : Named → Type 0
@@ -180,7 +180,7 @@ module _ (c : Settings) where
   says-type (method m) w = says-returned _ (says-result m.constructor m.result) and well-ascii (bytes "()") refl and says-method-arguments m false
   says-type (arguments l) w = says-separated (comma c) false l comma-well
   says-type (array e z) w = tt
-  says-type (primitive k n) w = primitive-well c unmarked k n
+  says-type (primitive k n) w = primitive-well c false k n
   says-type (named x) w = named-well x w
 
   says-alone : (r : Read Record) → ReadWell RecordWell r → S (alone c r)
@@ -205,20 +205,20 @@ module _ (c : Settings) where
   unfolding Says TaskWell aimed_again
   says-aimed-again ls r w = pointer-or S r _ _ (λ u m a n. tt) (says-pointed ls r w)
 
-  says-modified : (b : Attributes) (r : Record) → RecordWell r → S (modified_text c b r)
+  says-modified : (b : Bool) (r : Record) → RecordWell r → S (modified_text c b r)
   unfolding Says TaskWell modified_text all_ascii
   says-modified b r w =
       pointer-or S r _ _ (λ u m a n. tt)
-      (primitive-or S r _ _ (λ k n. primitive-well c b k n) (leading-well c b, says-texted (type_text c r) (says-type r w)))
+      (primitive-or S r _ _ (λ k n. primitive-well c b k n) (picked b (bytes "const ") refl, says-texted (type_text c r) (says-type r w)))
 
-  says-method-text : (m : Method) (closes : Bool) (l : List ℕ) (extra : Bool) (a : Attributes) → S (method_text c m closes l extra a)
+  says-method-text : (m : Method) (closes : Bool) (l : List ℕ) (extra constant : Bool) → S (method_text c m closes l extra constant)
   unfolding Says TaskWell method_text all_ascii
-  says-method-text m closes l extra a =
+  says-method-text m closes l extra constant =
       well-ascii (bytes "(") refl
       and either S extra _ _ tt empty
       and says-separated (comma c) extra l comma-well
       and well-ascii (bytes ")") refl
-      and closing-well c closes a
+      and picked (closes && constant) (bytes " const") refl
 
   says-named-method : (m : Method) (p : Rule) (name : List ℕ) → S p → WellFormed name → S (method_named c m p name)
   unfolding Says TaskWell method_named static_mark all_ascii
@@ -259,16 +259,16 @@ module _ (c : Settings) where
   says-id (bad f) w = says-marked f
 
   module _ (t : Table) (w : TableWell t) where
-    says-this : (m : Method) (k : Bool → Attributes → Rule) → ((e : Bool) (x : Attributes) → S (k e x)) → S (this_pointer c t m k)
+    says-this : (m : Method) (k : Bool → Bool → Rule) → ((e x : Bool) → S (k e x)) → S (this_pointer c t m k)
     unfolding this_pointer
     says-this m k h =
-        either S (eqb m.this 0) (k false unmarked) _ (h false unmarked)
+        either S (eqb m.this 0) (k false false) _ (h false false)
         (says-inside RecordWell (t.types m.this) _ (w.types m.this)
         (λ r v. pointer-or S r _ _
-        (λ u n a z. either S (eqb u m.class) (k false unmarked) _ (h false unmarked)
+        (λ u n a z. either S (eqb u m.class) (k false false) _ (h false false)
         (says-inside RecordWell (t.types u) _ (w.types u)
-        (λ q v. modifier-or S q _ _ (λ x b. either S (eqb x m.class) _ _ (h false b) (h true unmarked)) (h true unmarked))))
-        (h true unmarked)))
+        (λ q v. modifier-or S q _ _ (λ x b. either S (eqb x m.class) _ _ (h false b.constant) (h true false)) (h true false))))
+        (h true false)))
 
     says-list : (m : Method) (closes : Bool) (r : Record) → S (method_list c t m closes r)
     unfolding Says method_list
@@ -350,7 +350,7 @@ pick-well false t u h k = k
 checks-well : (flags size : ℕ) (t : Trace Refusal) → H t → H (flagged flags (sized size t refusal) refusal)
 unfolding flagged sized
 checks-well flags size t h =
-    pick-well (ltb flags 128) _ _ (pick-well (eqb size 4 || (eqb size 8 || eqb size 16)) t _ h empty) empty
+    pick-well (ltb flags 64) _ _ (pick-well (eqb size 4 || (eqb size 8 || eqb size 16)) t _ h empty) empty
 
 whole-well : (r : StreamCheck) (k : Stream → Trace Refusal) → ((t : Stream) → H (k t)) → H (whole r k)
 unfolding whole

@@ -18,8 +18,7 @@ use Rattle.codeview.specs.declared.record.ClassKind.TheVariants as kind
 use Rattle.utf8.specs.Utf8.{WellFormed}
 use Rattle.utf8.proofs.Shown.{never, all_ascii, all_append, well-append, well-ascii}
 use Rattle.rules.specs.Flags.{Settings}
-use Rattle.rules.specs.Record.{Attributes}
-use Rattle.rules.specs.Text.{digit, numeral, hex, decimal, missing_mark, unimplemented_mark, unhandled_type, unhandled_scope, function_name, primitive_name, shows_volatile, shows_any, leading, trailing, primitive_text, worded, class_text, Level, sign, levels, bracket, brackets, is_anonymous_namespace, string_text}
+use Rattle.rules.specs.Text.{digit, numeral, hex, decimal, missing_mark, unimplemented_mark, unhandled_type, unhandled_scope, function_name, primitive_name, primitive_text, worded, class_text, Level, sign, levels, bracket, brackets, is_anonymous_namespace, string_text}
 
 -- Digits and numbers.
 digit-ascii : (n : ℕ) → n < 16 → all_ascii (digit n ∷ []) ≡ true
@@ -136,36 +135,14 @@ primitive-name-ascii : (code : ℕ) → all_ascii (primitive_name code) ≡ true
 unfolding primitive_name
 primitive-name-ascii code = first-ascii code primitives table-ascii
 
--- Marks, before a text and behind it.
-leading_ascii : (c : Settings) (a : Attributes) → all_ascii (leading c a) ≡ true
-unfolding leading all_ascii
-leading_ascii c a =
-    all_append (pick a.constant (bytes "const ") []) (pick (shows_volatile c a) (bytes "volatile ") [])
-    (picked a.constant (bytes "const ") [] refl refl)
-    (picked (shows_volatile c a) (bytes "volatile ") [] refl refl)
-
-trailing_ascii : (c : Settings) (free : Bool) (a : Attributes) → all_ascii (trailing c free a) ≡ true
-unfolding trailing all_ascii
-trailing_ascii c free a =
-    all_append (pick a.constant (pick free (bytes " const") (bytes "const")) []) _
-    (picked a.constant (pick free (bytes " const") (bytes "const")) [] (picked free (bytes " const") (bytes "const") refl refl) refl)
-    (picked (shows_volatile c a) (pick (free || a.constant) (bytes " volatile") (bytes "volatile")) []
-    (picked (free || a.constant) (bytes " volatile") (bytes "volatile") refl refl) refl)
-
-pub leading-well : (c : Settings) (a : Attributes) → WellFormed (leading c a)
-leading-well c a = well-ascii _ (leading_ascii c a)
-
-pub closing-well : (c : Settings) (closes : Bool) (a : Attributes) → WellFormed (pick closes (trailing c true a) [])
-unfolding all_ascii
-closing-well c closes a = well-ascii _ (picked closes (trailing c true a) [] (trailing_ascii c true a) refl)
-
-pub primitive-well : (c : Settings) (a : Attributes) (code n : ℕ) → WellFormed (primitive_text c a code n)
+pub primitive-well : (c : Settings) (constant : Bool) (code n : ℕ) → WellFormed (primitive_text c constant code n)
 unfolding primitive_text all_ascii
-primitive-well c a code zero = well-ascii _ (all_append (leading c a) (primitive_name code) (leading_ascii c a) (primitive-name-ascii code))
-primitive-well c a code (suc n) =
+primitive-well c constant code zero =
+    well-ascii _ (all_append (pick constant (bytes "const ") []) (primitive_name code) (picked constant (bytes "const ") [] refl refl) (primitive-name-ascii code))
+primitive-well c constant code (suc n) =
     well-ascii _
     (all_append (primitive_name code) _ (primitive-name-ascii code)
-    (all_append (trailing c true a) _ (trailing_ascii c true a)
+    (all_append (pick constant (bytes " const") []) _ (picked constant (bytes " const") [] refl refl)
     (all_append (pick c.space_pointer (bytes " ") []) (bytes "*") (picked c.space_pointer (bytes " ") [] refl refl) refl)))
 
 -- Signs and brackets.
@@ -181,11 +158,12 @@ levels-ascii : (c : Settings) (free signed : Bool) (ls : List Level) → all_asc
 unfolding levels all_ascii
 levels-ascii c free signed [] = refl
 levels-ascii c free signed (l ∷ ls) =
-    all_append (trailing c free l.pointee) _ (trailing_ascii c free l.pointee)
-    (all_append (pick (c.space_pointer && (not (signed && not (shows_any c l.pointee)) && (free || shows_any c l.pointee))) (bytes " ") []) _
-    (picked (c.space_pointer && (not (signed && not (shows_any c l.pointee)) && (free || shows_any c l.pointee))) (bytes " ") [] refl refl)
+    all_append (pick l.pointee (pick free (bytes " const") (bytes "const")) []) _
+    (picked l.pointee _ [] (picked free (bytes " const") (bytes "const") refl refl) refl)
+    (all_append (pick (c.space_pointer && (not (signed && not l.pointee) && (free || l.pointee))) (bytes " ") []) _
+    (picked (c.space_pointer && (not (signed && not l.pointee) && (free || l.pointee))) (bytes " ") [] refl refl)
     (all_append (sign l.mode) _ (sign-ascii l.mode)
-    (all_append (trailing c true l.own) _ (trailing_ascii c true l.own) (levels-ascii c true (not (shows_any c l.own)) ls))))
+    (all_append (pick l.constant (bytes " const") []) _ (picked l.constant (bytes " const") [] refl refl) (levels-ascii c true (not l.constant) ls))))
 
 pub levels-well : (c : Settings) (free signed : Bool) (ls : List Level) → WellFormed (levels c free signed ls)
 levels-well c free signed ls = well-ascii _ (levels-ascii c free signed ls)

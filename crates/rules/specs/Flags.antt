@@ -1,4 +1,4 @@
--- What a call is set to: the flags of 000 and SHOW_VOLATILE, each a bit, and the pointer size.
+-- What a call is set to: the flags of 000, each a bit, and the pointer size.
 use Rattle.std.specs.Prelude.{ℕ, Bool, ◌||◌, eqb, ltb}
 use Rattle.wire.specs.Field.{pick}
 use Rattle.codeview.specs.Record.{bit}
@@ -12,11 +12,9 @@ pub record Settings : Type 0 where
   pub space_pointer : Bool
   pub name_only : Bool
   pub no_arguments : Bool
-  pub show_volatile : Bool
   pub pointer_size : ℕ
 
--- The six flags of 000, from bit 0 up: NO_FUNCTION_RETURN, NO_MEMBER_FUNCTION_STATIC, SPACE_AFTER_COMMA, SPACE_BEFORE_POINTER, NAME_ONLY, NO_ARGUMENTS. Then
--- "a new flag SHOW_VOLATILE (the lowest bit that 000 leaves free)" (document 02, Note 6).
+-- The six flags, from bit 0 up: NO_FUNCTION_RETURN, NO_MEMBER_FUNCTION_STATIC, SPACE_AFTER_COMMA, SPACE_BEFORE_POINTER, NAME_ONLY, NO_ARGUMENTS.
 unfoldable pub settings : ℕ → ℕ → Settings
 settings flags size =
     record {
@@ -26,7 +24,6 @@ settings flags size =
       space_pointer = bit 3 flags;
       name_only = bit 4 flags;
       no_arguments = bit 5 flags;
-      show_volatile = bit 6 flags;
       pointer_size = size;
     }
 
@@ -34,6 +31,6 @@ settings flags size =
 unfoldable pub sized : {A : Type 0} → ℕ → A → (Refusal → A) → A
 sized size good bad = pick (eqb size 4 || (eqb size 8 || eqb size 16)) good (bad (PointerSize size))
 
--- What follows from flags: 1 for a "flag bit that 000 does not define"; "the new bit no longer gives 1" (Note 6).
+-- What follows from flags: 1 for a "flag bit that 000 does not define".
 unfoldable pub flagged : {A : Type 0} → ℕ → A → (Refusal → A) → A
-flagged flags good bad = pick (ltb flags 128) good (bad (UnknownFlags flags))
+flagged flags good bad = pick (ltb flags 64) good (bad (UnknownFlags flags))

@@ -13,4 +13,3 @@ pub mod Call
 pub mod Places
 pub mod Placed
 pub mod Measure
-pub mod Volatile

@@ -5,41 +5,40 @@ use Rattle.wire.specs.Text.{bytes}
 use Rattle.streams.specs.declared.refusal.Refusal.TheVariants.{ArgumentTypeNotArgumentList}
 use Rattle.interpreter.specs.Trace.{write, refuse, call}
 use Rattle.rules.specs.Flags.{Settings}
-use Rattle.rules.specs.Record.{Attributes, Method, Record, Table, pointer_or, modifier_or, arguments_or}
-use Rattle.rules.specs.Text.{unmarked, trailing, function_name}
+use Rattle.rules.specs.Record.{Method, Record, Table, pointer_or, modifier_or, arguments_or}
+use Rattle.rules.specs.Text.{function_name}
 use Rattle.rules.specs.Task.{by_itself, Rule, ◌>>◌, say, inside}
 use Rattle.rules.specs.Types.{result, procedure_result, returned, method_arguments, procedure_arguments, argument_entries}
 
 module _ (c : Settings) where
-  -- A method's arguments once all is read (`emit_method_args`): whether the this pointer is an argument, and the marks that may close the text:
-  -- "where a method may close in ` const` by the modifier under its this pointer, bit 1 of that modifier writes ` volatile` after that place too" (Note 6).
-  unfoldable pub method_text : Method → Bool → List ℕ → Bool → Attributes → Rule
-  method_text m closes list extra marks =
+  -- A method's arguments once all is read (`emit_method_args`): whether the this pointer is an argument, whether the method is const.
+  unfoldable pub method_text : Method → Bool → List ℕ → Bool → Bool → Rule
+  method_text m closes list extra constant =
       say "("
       >> pick extra (call (by_itself m.this)) (write [])
       >> argument_entries c extra list
       >> say ")"
-      >> write (pick closes (trailing c true marks) [])
+      >> write (pick (closes && constant) (bytes " const") [])
 
   module _ (t : Table) where
     -- The this pointer (`check_ptr_class`): "A this pointer not to the given class (or its modifier) becomes the first argument." What follows is given
-    -- whether it does, and the marks of the class.
-    unfoldable pub this_pointer : Method → (Bool → Attributes → Rule) → Rule
+    -- whether it does, and whether the class is const.
+    unfoldable pub this_pointer : Method → (Bool → Bool → Rule) → Rule
     this_pointer m k =
-        pick (eqb m.this 0) (k false unmarked)
+        pick (eqb m.this 0) (k false false)
         (inside (t.types m.this)
         (λ r. pointer_or r
         (λ u mode a size.
-        pick (eqb u m.class) (k false unmarked)
+        pick (eqb u m.class) (k false false)
         (inside (t.types u)
-        (λ q. modifier_or q (λ v b. pick (eqb v m.class) (k false b) (k true unmarked)) (k true unmarked))))
-        (k true unmarked)))
+        (λ q. modifier_or q (λ v b. pick (eqb v m.class) (k false b.constant) (k true false)) (k true false))))
+        (k true false)))
 
     -- "A method's list must be an argument list; any other record there is refusal 9."
     unfoldable pub method_list : Method → Bool → Record → Rule
     method_list m closes r =
         arguments_or r
-        (λ list. this_pointer m (λ extra marks. method_text m closes list extra marks))
+        (λ list. this_pointer m (λ extra constant. method_text m closes list extra constant))
         (refuse (ArgumentTypeNotArgumentList m.list))
 
   -- `static ` before a method that has no this pointer; NO_MEMBER_FUNCTION_STATIC.

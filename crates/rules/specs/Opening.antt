@@ -47,7 +47,7 @@ rank (by_itself i) = 0
 rank (function_of i name) = 0
 rank (target i ls) = 0
 rank (target_of_modifier i ls) = 0
-rank (modified i a) = 0
+rank (modified i constant) = 0
 rank (list_of m closes) = 0
 rank (element i sizes) = 40 + (32 - length sizes)
 rank (size_of i n) = suc (32 - n)
@@ -65,7 +65,7 @@ module _ (c : Settings) (t : Table) where
   entry_of (function_of (suc i) name) = as_function (suc i)
   entry_of (target i ls) = as_target i
   entry_of (target_of_modifier i ls) = as_target_of_modifier i
-  entry_of (modified i a) = as_modified i
+  entry_of (modified i constant) = as_modified i
   entry_of (list_of m closes) = as_list m.list
   entry_of (element i sizes) = through
   entry_of (size_of i n) = through
@@ -80,7 +80,7 @@ module _ (c : Settings) (t : Table) where
   body (function_of (suc i) name) = inside (t.types (suc i)) (function_text c name)
   body (target i ls) = inside (t.types i) (aimed c ls)
   body (target_of_modifier i ls) = inside (t.types i) (aimed_again c ls)
-  body (modified i a) = inside (t.types i) (modified_text c a)
+  body (modified i constant) = inside (t.types i) (modified_text c constant)
   body (list_of m closes) = inside (t.types m.list) (method_list c t m closes)
   body (element i sizes) = inside (t.types i) (element_text c t i sizes)
   body (size_of i n) = size_step c t i n (t.types i)

@@ -25,9 +25,6 @@ pub record Attributes : Type 0 where
   pub constant : Bool
   pub volatile : Bool
 
-abbrev pub attributes : Bool → Bool → Attributes
-attributes constant volatile = record { constant = constant; volatile = volatile }
-
 -- A method: its result, class, this pointer and argument list, and whether it is a constructor.
 pub record Method : Type 0 where
   pub result : ℕ
@@ -102,6 +99,9 @@ match_name s n Absent = name_at s n
 
 abbrev layout : Bool → ℕ → List ℕ → List ℕ → Layout
 layout forward size name match = record { forward = forward; size = size; name = name; match = match }
+
+abbrev attributes : Bool → Bool → Attributes
+attributes constant volatile = record { constant = constant; volatile = volatile }
 
 -- A decoded type record, its places read.
 unfoldable pub type_contents : List ℕ → TypeData → Record

@@ -6,18 +6,18 @@ use Rattle.wire.specs.Text.{bytes}
 use Rattle.streams.specs.Refusal.{number_of, detail_of}
 use Rattle.streams.specs.declared.refusal.Refusal.{Refusal}
 use Rattle.interpreter.specs.Trace.{Prog, write, miss, refuse, call, seq, catch}
-use Rattle.rules.specs.Record.{Attributes, Method, Read, good, bad}
+use Rattle.rules.specs.Record.{Method, Read, good, bad}
 use Rattle.rules.specs.Text.{missing_mark, unimplemented_mark, Level}
 
 -- What is taken up, one index each: a type by itself; a function's type, with the name; a pointer's target under the levels so far; the target of a
--- pointer's modifier; any other modifier's target, with its marks; a method's argument list, and whether marks may close it; an array's element, under
+-- pointer's modifier; any other modifier's target, with its const; a method's argument list, and whether const may close it; an array's element, under
 -- the bytes of the levels so far; a size step, after so many records; an id; the function type of a function id and of a member id.
 pub data Task : Type 0 where
   by_itself : ℕ → Task
   function_of : ℕ → List ℕ → Task
   target : ℕ → List Level → Task
   target_of_modifier : ℕ → List Level → Task
-  modified : ℕ → Attributes → Task
+  modified : ℕ → Bool → Task
   list_of : Method → Bool → Task
   element : ℕ → List ℕ → Task
   size_of : ℕ → ℕ → Task

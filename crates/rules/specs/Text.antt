@@ -9,7 +9,6 @@ use Rattle.codeview.specs.declared.record.PointerMode.TheVariants as mode
 use Rattle.codeview.specs.declared.record.ClassKind.{ClassKind}
 use Rattle.codeview.specs.declared.record.ClassKind.TheVariants as kind
 use Rattle.rules.specs.Flags.{Settings}
-use Rattle.rules.specs.Record.{Attributes, attributes}
 
 -- A digit below 16: `0` to `9`, then `a` to `f` ("Hex is lower case without leading zeros").
 unfoldable pub digit : ℕ → ℕ
@@ -53,35 +52,11 @@ primitive_name code = first_of code primitives (λ k. take k.len k.name) []
 unfoldable pub primitive_size : ℕ → ℕ
 primitive_size code = first_of code primitives (λ k. k.size) 0
 
--- No marks, and the marks of a modifier with those of the pointer under it.
-abbrev pub unmarked : Attributes
-unmarked = attributes false false
-
-unfoldable pub joined : Attributes → Attributes → Attributes
-joined a b = attributes (a.constant || b.constant) (a.volatile || b.volatile)
-
--- Which marks are written: "with a new flag SHOW_VOLATILE" the volatile one too (document 02, Note 6).
-unfoldable pub shows_volatile : Settings → Attributes → Bool
-shows_volatile c a = c.show_volatile && a.volatile
-
-unfoldable pub shows_any : Settings → Attributes → Bool
-shows_any c a = a.constant || shows_volatile c a
-
--- "`volatile ` after `const ` where a modifier leads."
-unfoldable pub leading : Settings → Attributes → List ℕ
-leading c a = pick a.constant (bytes "const ") [] ++ pick (shows_volatile c a) (bytes "volatile ") []
-
--- "` volatile` after the place of ` const` at that level, spaced as that is": a space stands before the first only where one may (`free`), before the
--- second always.
-unfoldable pub trailing : Settings → Bool → Attributes → List ℕ
-trailing c free a =
-    pick a.constant (pick free (bytes " const") (bytes "const")) []
-    ++ pick (shows_volatile c a) (pick (free || a.constant) (bytes " volatile") (bytes "volatile")) []
-
--- A primitive as 000 writes it, with the marks of its modifier: before the name, or behind it where it is pointed to.
-unfoldable pub primitive_text : Settings → Attributes → ℕ → ℕ → List ℕ
-primitive_text c a code zero = leading c a ++ primitive_name code
-primitive_text c a code (suc n) = primitive_name code ++ (trailing c true a ++ (pick c.space_pointer (bytes " ") [] ++ bytes "*"))
+-- A primitive as 000 writes it, with the const of its modifier: before the name, or behind it where it is pointed to.
+unfoldable pub primitive_text : Settings → Bool → ℕ → ℕ → List ℕ
+primitive_text c constant code zero = pick constant (bytes "const ") [] ++ primitive_name code
+primitive_text c constant code (suc n) =
+    primitive_name code ++ (pick constant (bytes " const") [] ++ (pick c.space_pointer (bytes " ") [] ++ bytes "*"))
 
 -- A name behind the word for its kind; NAME_ONLY writes the name alone.
 unfoldable pub worded : Settings → String → List ℕ → List ℕ
@@ -92,20 +67,19 @@ class_text c kind.Class name = worded c "class" name
 class_text c kind.Struct name = worded c "struct" name
 class_text c kind.Interface name = worded c "interface" name
 
--- One pointer on the way to a type: its own marks, those of what it points to, and its sign ("The attribute record kept for each pointer level gains both
--- marks").
+-- One pointer on the way to a type: whether it is const, whether what it points to is, and its sign.
 pub record Level : Type 0 where
-  pub own : Attributes
-  pub pointee : Attributes
+  pub constant : Bool
+  pub pointee : Bool
   pub mode : PointerMode
 
-abbrev pub level : Attributes → Attributes → PointerMode → Level
-level own pointee mode = record { own = own; pointee = pointee; mode = mode }
+abbrev pub level : Bool → Bool → PointerMode → Level
+level constant pointee mode = record { constant = constant; pointee = pointee; mode = mode }
 
--- A modifier between a pointer and what it points to: its marks are those of the last level.
-unfoldable pub over_pointee : Attributes → List Level → List Level
-over_pointee a [] = []
-over_pointee a (l ∷ ls) = level l.own a l.mode ∷ ls
+-- A modifier between a pointer and what it points to: its const is that of the last level.
+unfoldable pub over_pointee : Bool → List Level → List Level
+over_pointee constant [] = []
+over_pointee constant (l ∷ ls) = level l.constant constant l.mode ∷ ls
 
 unfoldable pub sign : PointerMode → List ℕ
 sign mode.Pointer = bytes "*"
@@ -118,11 +92,11 @@ sign mode.RValueReference = bytes "&&"
 unfoldable pub levels : Settings → Bool → Bool → List Level → List ℕ
 levels c free signed [] = []
 levels c free signed (l ∷ ls) =
-    trailing c free l.pointee
-    ++ (pick (c.space_pointer && (not (signed && not (shows_any c l.pointee)) && (free || shows_any c l.pointee))) (bytes " ") []
+    pick l.pointee (pick free (bytes " const") (bytes "const")) []
+    ++ (pick (c.space_pointer && (not (signed && not l.pointee) && (free || l.pointee))) (bytes " ") []
     ++ (sign l.mode
-    ++ (trailing c true l.own
-    ++ levels c true (not (shows_any c l.own)) ls)))
+    ++ (pick l.constant (bytes " const") []
+    ++ levels c true (not l.constant) ls)))
 
 -- Whether a text ends in a sign.
 unfoldable pub ends_signed : List ℕ → Bool

@@ -5,7 +5,7 @@ use Rattle.wire.specs.Text.{bytes}
 use Rattle.interpreter.specs.Trace.{write, call}
 use Rattle.rules.specs.Flags.{Settings}
 use Rattle.rules.specs.Record.{Method, Named, class, union, enumeration, enumerate, kind_only, Record, pointer, modifier, procedure, method, arguments, array, primitive, named, Read, good, bad}
-use Rattle.rules.specs.Text.{unmarked, unhandled_type, primitive_text, worded, class_text, level}
+use Rattle.rules.specs.Text.{unhandled_type, primitive_text, worded, class_text, level}
 use Rattle.rules.specs.Task.{by_itself, target, modified, list_of, element, Rule, ◌>>◌, say, unless, texted, marked, separated}
 
 module _ (c : Settings) where
@@ -46,13 +46,13 @@ module _ (c : Settings) where
 
   -- A type (`emit_type_inner`). "A bare procedure's text has no closing parenthesis."
   unfoldable pub type_text : Record → Rule
-  type_text (pointer t mode a size) = call (target t (level a unmarked mode ∷ []))
-  type_text (modifier t a) = call (modified t a)
+  type_text (pointer t mode a size) = call (target t (level a.constant false mode ∷ []))
+  type_text (modifier t a) = call (modified t a.constant)
   type_text (procedure r constructor list) = returned (procedure_result constructor r) >> say "()(" >> call (by_itself list)
   type_text (method m) = returned (result m.constructor m.result) >> say "()" >> method_arguments m false
   type_text (arguments list) = argument_entries false list
   type_text (array e size) = call (element e (size ∷ []))
-  type_text (primitive code n) = write (primitive_text c unmarked code n)
+  type_text (primitive code n) = write (primitive_text c false code n)
   type_text (named x) = write (named_text x)
 
   -- A type index by itself (`emit_type_index`).

@@ -110,13 +110,12 @@ fn texts(types: &[u8], ids: &[u8], flags: u32) {
     all_types(types, Call::Function, flags);
 }
 
-// Flags: none; NO_FUNCTION_RETURN and NO_ARGUMENTS; the other four of the Rust together; all six; SHOW_VOLATILE.
+// Flags: none; NO_FUNCTION_RETURN and NO_ARGUMENTS; the other four together; all six.
 fn report(types: &[u8], ids: &[u8]) {
     texts(types, ids, 0);
     texts(types, ids, 0b10_0001);
     texts(types, ids, 0b01_1110);
     texts(types, ids, 0b11_1111);
-    texts(types, ids, 0b100_0000);
     say(b"sizes\n");
     all_types(types, Call::Size, 0);
 }

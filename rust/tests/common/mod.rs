@@ -79,12 +79,7 @@ pub fn pointer(target: u32) -> Vec<u8> {
 }
 
 pub fn pointer_of(target: u32, mode: u32, is_const: bool, size: u32) -> Vec<u8> {
-    marked_pointer(target, mode, u32::from(is_const), size)
-}
-
-/// A pointer with marks of its own: 1 const, 2 volatile and 4 unaligned, as a modifier has them, and 8 restrict.
-pub fn marked_pointer(target: u32, mode: u32, marks: u32, size: u32) -> Vec<u8> {
-    let attributes = size << 13 | (marks & 12) << 9 | (marks & 1) << 10 | (marks & 2) << 8 | mode << 5 | 0xc;
+    let attributes = size << 13 | u32::from(is_const) << 10 | mode << 5 | 0xc;
     let member: &[u8] = if mode == 2 || mode == 3 { &[0; 6] } else { &[] };
     record(0x1002, &[&target.to_le_bytes(), &attributes.to_le_bytes(), member])
 }
@@ -256,7 +251,7 @@ fn random_type(rng: &mut Rng, at: usize, count: usize) -> Vec<u8> {
         0..=2 => modifier(a, rng.below(8) as u16),
         3..=6 => {
             let (mode, size) = (rng.below(5) as u32, rng.pick(&[0, 4, 8, 16]));
-            marked_pointer(a, mode, rng.below(16) as u32, size)
+            pointer_of(a, mode, rng.one_in(3), size)
         }
         7..=9 => procedure(a, b, rng.below(4) as u8),
         10 | 11 => method(a, b, c, d, rng.below(4) as u8),
@@ -386,40 +381,6 @@ pub fn real_streams() -> Vec<Streams> {
             Streams { name: name.to_string(), types, ids, type_count, id_count }
         })
         .collect()
-}
-
-/// The streams of rust/examples/registers.pdb, made by clang and lld: modifiers and pointers that are const, volatile and both.
-pub fn registers() -> Streams {
-    let pdb = yokberd::Pdb::read(&fs::read(folder("rust/examples/registers.pdb")).unwrap()).unwrap();
-    let (type_count, id_count) = (record_count(&pdb.types), record_count(&pdb.ids));
-    Streams { name: "registers".to_string(), types: pdb.types, ids: pdb.ids, type_count, id_count }
-}
-
-/// The marks of each modifier and each pointer of a well-formed type stream, with its kind: 1 const, 2 volatile.
-pub fn marks(types: &[u8]) -> Vec<(u16, u8)> {
-    let of_record = |at: usize| match half(types, at + 2) {
-        0x1001 => Some((0x1001, types[at + 8] & 3)),
-        // bits 10 and 9
-        0x1002 => Some((0x1002, types[at + 9] >> 2 & 1 | types[at + 9] & 2)),
-        _ => None,
-    };
-    record_places(types).into_iter().filter_map(of_record).collect()
-}
-
-/// The same stream with these marks in place of those that each of them has.
-pub fn with_marks(types: &[u8], change: impl Fn(u8) -> u8) -> Vec<u8> {
-    let (mut changed, mut old) = (types.to_vec(), marks(types).into_iter());
-    for at in record_places(types) {
-        match half(types, at + 2) {
-            0x1001 => changed[at + 8] = types[at + 8] & !3 | change(old.next().unwrap().1),
-            0x1002 => {
-                let new = change(old.next().unwrap().1);
-                changed[at + 9] = types[at + 9] & !6 | new & 2 | (new & 1) << 2;
-            }
-            _ => {}
-        }
-    }
-    changed
 }
 
 /// Groups of records in a row, each made from the index of its first record, and then a pointer to int. The first record leads through them all.
@@ -556,7 +517,7 @@ pub fn settings(rng: &mut Rng) -> (TypeFormatterFlags, u8) {
     let flags = match rng.below(16) {
         0 => rng.next() as u32,
         1..=4 => 0,
-        _ => rng.below(128) as u32,
+        _ => rng.below(64) as u32,
     };
     (TypeFormatterFlags::from_bits_retain(flags), rng.pick(&[8, 8, 8, 8, 8, 8, 8, 8, 4, 4, 4, 4, 16, 16, 0, 255]))
 }

@@ -24,9 +24,6 @@ use asked::{refusal, Answer, Original};
 use common::{case_count, raw_name, real_streams, record_kinds, Call, Rng, Streams, FIRST, UNHANDLED};
 use type_formatter::TypeFormatterFlags;
 
-// The sets of the original's six flags. It has no SHOW_VOLATILE: texts with that flag are not compared.
-const SETS: u32 = 64;
-
 fn ours(streams: &Streams, call: Call, flags: u32, ptr_size: u8) -> Answer {
     let flags = yokberd::TypeFormatterFlags::from_bits_retain(flags);
     let formatter = yokberd::TypeFormatter::new_from_parts(&streams.types, &streams.ids, ptr_size, flags);
@@ -77,7 +74,6 @@ fn flags_are_the_originals() {
     }
     same!(NO_FUNCTION_RETURN NO_MEMBER_FUNCTION_STATIC SPACE_AFTER_COMMA SPACE_BEFORE_POINTER NAME_ONLY NO_ARGUMENTS);
     assert_eq!(yokberd::TypeFormatterFlags::default().bits(), TypeFormatterFlags::default().bits());
-    assert_eq!((yokberd::TypeFormatterFlags::all() - yokberd::TypeFormatterFlags::SHOW_VOLATILE).bits(), SETS - 1);
 }
 
 // Real streams
@@ -85,7 +81,7 @@ fn flags_are_the_originals() {
 #[test]
 fn real_streams_have_the_originals_texts() {
     let mut agreed = Agreed::default();
-    for streams in real_streams().into_iter().chain([common::registers()]) {
+    for streams in real_streams() {
         // what the original writes of an unhandled record is debug text
         let (types, ids) = (record_kinds(&streams.types), record_kinds(&streams.ids));
         let written = |kinds: &[u16], index: u32| {
@@ -98,7 +94,7 @@ fn real_streams_have_the_originals_texts() {
             _ => true,
         };
         let asked: Vec<_> = calls(&streams).into_iter().filter(handled).collect();
-        for flags in 0..SETS {
+        for flags in 0..64 {
             agreed.compare(&streams, &asked, flags, 8, MachineType::Amd64);
         }
     }
@@ -114,7 +110,7 @@ fn no_ids_have_the_originals_marks() {
         let [none, no_records] =
             [vec![], common::stream(&[])].map(|ids| Streams { name: streams.name.clone(), types: streams.types.clone(), ids, ..streams });
         let original = Original::new(&no_records);
-        for (call, flags) in ids.flat_map(|call| (0..SETS).map(move |flags| (call, flags))) {
+        for (call, flags) in ids.flat_map(|call| (0..64).map(move |flags| (call, flags))) {
             let expected = asked::answer(&original.formatter(flags, MachineType::Amd64), call);
             assert_eq!(ours(&none, call, flags, 8), expected, "{} {call:?} flags {flags:#x}", streams.name);
         }
@@ -163,10 +159,10 @@ fn named(rng: &mut Rng, at: u32, count: u32) -> Vec<u8> {
 fn random_type(rng: &mut Rng, at: u32, count: u32) -> Vec<u8> {
     let any = |rng: &mut Rng| index(rng, at, count, true);
     match rng.below(20) {
-        0 | 1 => common::modifier(index(rng, at, count, false), rng.below(8) as u16),
+        0 | 1 => common::modifier(index(rng, at, count, false), rng.below(4) as u16),
         2..=5 => {
-            let (target, mode, marks) = (any(rng), rng.below(5) as u32, rng.below(16) as u32);
-            common::marked_pointer(target, mode, marks, rng.pick(&[4, 8]))
+            let (target, mode, is_const) = (any(rng), rng.below(5) as u32, rng.one_in(3));
+            common::pointer_of(target, mode, is_const, rng.pick(&[4, 8]))
         }
         6..=8 => {
             let result = if rng.one_in(5) { 0 } else { any(rng) };
@@ -220,17 +216,13 @@ fn random_streams(rng: &mut Rng, case: usize) -> Streams {
 #[test]
 fn random_streams_have_the_originals_texts() {
     let mut rng = Rng(0x60_08);
-    let (mut agreed, mut marked, cases) = (Agreed::default(), [[0; 4]; 2], case_count(1000));
+    let (mut agreed, cases) = (Agreed::default(), case_count(1000));
     for case in 0..cases {
         let streams = random_streams(&mut rng, case);
         let (ptr_size, machine) = rng.pick(&[(8, MachineType::Amd64), (4, MachineType::X86), (16, MachineType::RiscV128)]);
-        agreed.compare(&streams, &calls(&streams), rng.below(SETS as usize) as u32, ptr_size, machine);
-        for (kind, marks) in common::marks(&streams.types) {
-            marked[usize::from(kind - 0x1001)][usize::from(marks)] += 1;
-        }
+        agreed.compare(&streams, &calls(&streams), rng.below(64) as u32, ptr_size, machine);
     }
-    println!("{cases} random pairs: {agreed:?}; modifiers and pointers without marks, const, volatile and both: {marked:?}");
-    assert!(cases < 1000 || marked.iter().flatten().all(|count| *count > 200));
+    println!("{cases} random pairs: {agreed:?}");
     // every kind of error but 5, which the stand-in would decide
     assert!(cases < 1000 || agreed.answers > 50_000 && agreed.errors[6..].iter().all(|count| *count > 0));
 }

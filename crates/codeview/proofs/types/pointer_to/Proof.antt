@@ -1,6 +1,7 @@
 -- The fields as they are read.
 -- Assumes nothing.
-use Rattle.codeview.proofs.KindLaws.{pointer-as}
+use Rattle.codeview.specs.Record.{bit}
+use Rattle.codeview.specs.Kinds.{pointer_to}
 use borrow.Author.Rules.{rules}
 use Rattle.codeview.proofs.types.pointer_to.Statement.{statement}
 use Rattle.codeview.proofs.types.pointer_to.Tie as tie
@@ -18,7 +19,8 @@ pointer-mode-requires : tie.Need-pointer-mode-requires
 pointer-mode-requires c κs = search rules
 
 returns : tie.Need-returns
-returns c = pointer-as _ c.before.before.before.before.before.args.attributes c.before.before.before.before.before.args.mode _ _ _ _ _ c.before.before.before.u32-in.ensures c.before.before.has-bit.ensures c.before.has-bit2.ensures c.pointer-mode.ensures
+unfolding pointer_to bit
+returns c = rw (c.before.before.before.u32-in.ensures, c.before.before.has-bit.ensures, c.before.has-bit2.ensures, c.pointer-mode.ensures)
 
 pub pointer-to-spec : {M : Type 1} → statement M
 pointer-to-spec =

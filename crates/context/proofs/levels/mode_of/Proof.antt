@@ -1,6 +1,6 @@
 -- The five modes.
 -- Assumes nothing.
-use Rattle.context.specs.Context.{mode_at}
+use Rattle.context.specs.Context.{flags_byte, mode_byte, mode_at, level_at, levels_of}
 use mathlib.Core.Path.{◌≡◌, refl, sym, ◌∙◌}
 use lib.ListN.{length}
 use Rattle.context.proofs.Laws.{mode-first, mode-second, mode-third, mode-fourth, mode-fifth}

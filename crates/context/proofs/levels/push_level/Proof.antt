@@ -23,7 +23,7 @@ array-write-a c = search rules
 
 returns : tie.Need-returns
 unfolding levels_of pushed_level
-returns c = let n : length c.before.before.before.args.o.items ≡ 96 = search rules in record { is = rw c.before.pack.ensures; left = refl; levels = levels-push c.before.before.before.args.o.items c.before.before.before.args.o.left c.before.pack.result _ (omega (arith, c.before.before.before.requires)) (omega (arith, c.before.before.before.requires)) (ap level_at c.before.pack.ensures ∙ unpacked _) }
+returns c = let n : length c.before.before.before.args.o.items ≡ 96 = search rules in record { is = rw c.before.pack.ensures; left = refl; levels = levels-push c.before.before.before.args.o.items c.before.before.before.args.o.left c.before.pack.result _ (omega (arith, c.before.before.before.requires)) (omega (arith, c.before.before.before.requires)) (ap level_at c.before.pack.ensures ∙ unpacked _ _ _) }
 
 pub push-level-spec : {M : Type 1} → statement M
 push-level-spec = tie.close (tie.spec sub_at pack-requires array-write-a returns)

@@ -40,16 +40,17 @@ use Rattle.context.proofs.levels.no_levels.Reads as no-levels-reads
 use Rattle.context.proofs.levels.over_pointee.Reads as over-pointee-reads
 use Rattle.queries.proofs.this.check_ptr_class.Reads as check-ptr-class-reads
 use Rattle.leaf_writers.proofs.attributes.emit_attributes.Reads as emit-attributes-reads
-use Rattle.leaf_writers.proofs.attributes.emit_closing.Reads as emit-closing-reads
-use Rattle.leaf_writers.proofs.attributes.emit_leading.Reads as emit-leading-reads
 use Rattle.leaf_writers.proofs.brackets.emit_brackets.Reads as emit-brackets-reads
 use Rattle.leaf_writers.proofs.named.emit_primitive.Reads as emit-primitive-reads
 use Rattle.leaf_writers.proofs.settings.no_arguments.Reads as no-arguments-reads
+use Rattle.leaf_writers.proofs.settings.text_if.Reads as text-if-reads
 use Rattle.pen.proofs.is_idle.Reads as is-idle-reads
 use Rattle.pen.proofs.refuse.Reads as refuse-reads
 use Rattle.pen.proofs.text.Reads as text-reads
 use Rattle.pen.proofs.too_long.Reads as too-long-reads
 use Rattle.pen.proofs.unread.Reads as unread-reads
+use Rattle.leaf_writers.proofs.fragments.both.Reads as both-reads
+use Rattle.leaf_writers.proofs.fragments.either.Reads as either-reads
 use Rattle.leaf_writers.proofs.fragments.emit_attributes_since.Reads as emit-attributes-since-reads
 use Rattle.leaf_writers.proofs.fragments.emit_comma.Reads as emit-comma-reads
 use Rattle.leaf_writers.proofs.fragments.emit_record.Reads as emit-record-reads
@@ -58,7 +59,6 @@ use Rattle.leaf_writers.proofs.fragments.hides_return.Reads as hides-return-read
 use Rattle.leaf_writers.proofs.fragments.is_void.Reads as is-void-reads
 use Rattle.queries.proofs.sizes.get_type_size.Reads as get-type-size-reads
 use Rattle.emit.proofs.aim.Reads as aim-reads
-use Rattle.emit.proofs.join.Reads as join-reads
 use Rattle.leaf_writers.proofs.marks.emit_mark.Reads as emit-mark-reads
 use Rattle.leaf_writers.proofs.marks.mark_missing.Reads as mark-missing-reads
 use Prim.Native.Nat.{◌+◌, ◌*◌}  -- common

@@ -35,9 +35,6 @@ unpack-requires c κs = search rules
 emit-level-requires : tie.Need-emit-level-requires invariant-loop decreases-loop
 emit-level-requires c κs = search rules
 
-shows-any-requires : tie.Need-shows-any-requires invariant-loop decreases-loop
-shows-any-requires c κs = search rules
-
 add-i : tie.Need-overflow-add-i invariant-loop decreases-loop
 add-i c = search rules
 
@@ -45,7 +42,7 @@ loop-less : tie.Need-loop-smaller invariant-loop decreases-loop
 loop-less c = search rules
 
 loop-again : tie.Need-loop-preserved invariant-loop decreases-loop
-loop-again c = let n : length c.before.before.before.before.before.before.before.before.before.before.before.args.o.items ≡ 96 = c.before.before.before.before.before.before.before.before.loop.invariant.0 in (n, cc, levels-turn _ _ _ c.before.before.before.before.before.before.before.before.before.before.before.args.o.items c.before.before.before.before.before.before.before.before.loop.i c.before.before.before.before.before.before.unpack.result _ _ _ _ _ (omega arith) c.before.before.before.before.before.before.unpack.ensures c.shows-any.ensures c.before.before.before.before.before.before.before.before.loop.invariant.2 c.before.before.before.emit-level.ensures)
+loop-again c = let n : length c.before.before.before.before.before.before.before.before.before.before.args.o.items ≡ 96 = c.before.before.before.before.before.before.before.loop.invariant.0 in (n, cc, levels-turn _ _ _ c.before.before.before.before.before.before.before.before.before.before.args.o.items c.before.before.before.before.before.before.before.loop.i c.before.before.before.before.before.unpack.result _ _ _ _ (omega arith) c.before.before.before.before.before.unpack.ensures c.before.before.before.before.before.before.before.loop.invariant.2 c.before.before.before.emit-level.ensures)
 
 same_length : tie.Need-same-length invariant-loop decreases-loop
 same_length c = c.before.loop.invariant.1
@@ -64,7 +61,6 @@ emit-attributes-spec =
     array-read-unpack
     unpack-requires
     emit-level-requires
-    shows-any-requires
     add-i
     loop-less
     loop-again

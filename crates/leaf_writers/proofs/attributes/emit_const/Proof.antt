@@ -1,8 +1,7 @@
 -- With a space before it, or not.
 -- Assumes nothing.
-use Rattle.wire.specs.Text.{bytes}
 use Rattle.pen.proofs.Laws.{wrote_by}
-use Rattle.leaf_writers.proofs.SignsLaws.{word-spaced, word-tight}
+use Rattle.leaf_writers.proofs.SignsLaws.{const_free, const-first}
 use borrow.Author.Rules.{rules}
 use Rattle.leaf_writers.proofs.attributes.emit_const.Statement.{statement}
 use Rattle.leaf_writers.proofs.attributes.emit_const.Tie as tie
@@ -17,7 +16,7 @@ same_length : tie.Need-same-length
 same_length c = search rules
 
 returns : tie.Need-returns
-returns c = wrote_by c.before.before.text-if.ensures (word-spaced c.before.before.before.before.before.before.before.args.b _ (bytes " const") (bytes "const") c.before.before.before.before.before.if1.true)
+returns c = wrote_by c.before.before.text-if.ensures (const_free _ _ c.before.before.before.before.before.if1.true)
 
 slice-aggregate-text-if-2 : tie.Need-slice-aggregate-text-if-2
 slice-aggregate-text-if-2 c = search rules
@@ -29,7 +28,7 @@ same-length-2 : tie.Need-same-length-2
 same-length-2 c = search rules
 
 returns-2 : tie.Need-returns-2
-returns-2 c = wrote_by c.before.before.text-if2.ensures (word-tight c.before.before.before.before.before.before.before.args.b _ (bytes " const") (bytes "const") c.before.before.before.before.before.if1.false)
+returns-2 c = wrote_by c.before.before.text-if2.ensures (const-first _ _ c.before.before.before.before.before.if1.false)
 
 pub emit-const-spec : {M : Type 1} → statement M
 emit-const-spec =

@@ -1,17 +1,14 @@
 -- Four texts, one after another.
 -- Assumes nothing.
 use Rattle.context.specs.Context.{level_of}
-use Rattle.pen.proofs.Laws.{◌▹◌, wrote_by, wrote-length}
+use Rattle.pen.proofs.Laws.{◌▹◌, wrote_by}
 use Rattle.leaf_writers.proofs.SignsLaws.{level-is}
 use borrow.Author.Rules.{rules}
 use Rattle.leaf_writers.proofs.attributes.emit_level.Statement.{statement}
 use Rattle.leaf_writers.proofs.attributes.emit_level.Tie as tie
 
-shows-any-requires : tie.Need-shows-any-requires
-shows-any-requires c κs = search rules
-
-trail-if-requires : tie.Need-trail-if-requires
-trail-if-requires c κs = search rules
+emit-const-requires : tie.Need-emit-const-requires
+emit-const-requires c κs = search rules
 
 space-pointer-requires : tie.Need-space-pointer-requires
 space-pointer-requires c κs = search rules
@@ -28,30 +25,29 @@ text-if-requires c κs = search rules
 emit-sign-requires : tie.Need-emit-sign-requires
 emit-sign-requires c κs = search rules
 
-shows-any-requires-2 : tie.Need-shows-any-requires-2
-shows-any-requires-2 c κs = search rules
+slice-aggregate-text-if-2 : tie.Need-slice-aggregate-text-if-2
+slice-aggregate-text-if-2 c = search rules
 
-trail-if-requires-2 : tie.Need-trail-if-requires-2
-trail-if-requires-2 c κs = search rules
-
-returns : tie.Need-returns
-returns c = wrote_by (c.before.before.before.before.before.before.before.before.before.before.before.before.before.before.before.before.before.before.trail-if.ensures ▹ c.before.before.before.before.before.before.before.before.before.before.before.text-if.ensures ▹ c.before.before.before.before.before.before.before.emit-sign.ensures ▹ c.before.before.trail-if2.ensures) (level-is _ _ _ _ _ _ _ (level_of c.before.before.before.before.before.before.before.before.before.before.before.before.before.before.before.before.before.before.before.before.before.before.before.before.args.l) c.before.before.before.before.before.before.before.before.before.before.before.before.before.before.before.space-pointer.ensures c.before.before.before.before.before.before.before.before.before.before.before.before.before.before.before.before.before.before.before.before.shows-any.ensures c.before.before.before.shows-any2.ensures c.before.before.before.before.before.before.before.before.before.before.before.before.before.before.is-spaced.ensures)
+text-if-requires-2 : tie.Need-text-if-requires-2
+text-if-requires-2 c κs = search rules
 
 same_length : tie.Need-same-length
-same_length c = wrote-length (returns c)
+same_length c = search rules
+
+returns : tie.Need-returns
+returns c = wrote_by (c.before.before.before.before.before.before.before.before.before.before.before.before.before.before.before.before.before.before.emit-const.ensures ▹ c.before.before.before.before.before.before.before.before.before.before.before.text-if.ensures ▹ c.before.before.before.before.before.before.before.emit-sign.ensures ▹ c.before.before.text-if2.ensures) (level-is _ _ _ _ _ (level_of c.before.before.before.before.before.before.before.before.before.before.before.before.before.before.before.before.before.before.before.before.before.args.l) c.before.before.before.before.before.before.before.before.before.before.before.before.before.before.before.space-pointer.ensures c.before.before.before.before.before.before.before.before.before.before.before.before.before.before.is-spaced.ensures)
 
 pub emit-level-spec : {M : Type 1} → statement M
 emit-level-spec =
     tie.close
     (tie.spec
-    shows-any-requires
-    trail-if-requires
+    emit-const-requires
     space-pointer-requires
     is-spaced-requires
     slice-aggregate-text-if
     text-if-requires
     emit-sign-requires
-    shows-any-requires-2
-    trail-if-requires-2
+    slice-aggregate-text-if-2
+    text-if-requires-2
     same_length
     returns)

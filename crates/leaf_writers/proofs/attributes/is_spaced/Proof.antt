@@ -1,11 +1,11 @@
 -- The cases of `spaced`, in the order of the code.
 -- Assumes nothing.
-use Rattle.leaf_writers.proofs.SignsLaws.{spaced-off, spaced-marked, spaced-signed, spaced-free}
+use Rattle.leaf_writers.proofs.SignsLaws.{spaced-off, spaced-const, spaced-signed, spaced-free}
 use Rattle.leaf_writers.proofs.attributes.is_spaced.Statement.{statement}
 use Rattle.leaf_writers.proofs.attributes.is_spaced.Tie as tie
 
 returns : tie.Need-returns
-returns c = spaced-marked _ _ _ _ c.before.if1.true c.if2.true
+returns c = spaced-const _ _ _ _ c.before.if1.true c.if2.true
 
 returns-2 : tie.Need-returns-2
 returns-2 c = spaced-signed _ _ _ _ c.before.before.if1.true c.before.if2.false c.if3.true

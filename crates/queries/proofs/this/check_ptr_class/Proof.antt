@@ -27,7 +27,7 @@ enum-known-f : tie.Need-enum-known-f
 enum-known-f c = search rules
 
 returns-3 : tie.Need-returns-3
-returns-3 c = this-pointer _ _ _ _ _ _ _ c.before.before.before.before.before.before.before.before.if1.false (read-good _ _ _ _ c.before.before.before.before.before.before.before.type_at.ensures c.before.before.before.before.before.t.given.1) c.before.before.t2.given.1 c.of-pointee.ensures
+returns-3 c = this-pointer _ _ _ _ _ _ _ c.before.before.before.before.before.before.before.before.before.if1.false (read-good _ _ _ _ c.before.before.before.before.before.before.before.before.type_at.ensures c.before.before.before.before.before.before.t.given.1) c.before.before.before.t2.given.1 c.of-pointee.ensures
 
 returns-4 : tie.Need-returns-4
 returns-4 c = this-unread _ _ _ _ c.before.before.before.before.if1.false (read-bad _ _ _ _ c.before.before.before.type_at.ensures c.before.f.given.1)

@@ -1,4 +1,4 @@
--- Each return is a case of the definition: all seven flags together are 127.
+-- Each return is a case of the definition: all six flags together are 63.
 -- Assumes nothing.
 use borrow.Author.Tests.{lt-ltb, le-ltb}
 use Rattle.context.specs.Context.{known}
