@@ -1,4 +1,6 @@
 // Many texts in one call: the texts of types or of ids, one after another in one buffer, and for each of them what its call tells and where its text lies.
+#![tactic(auto)]
+
 ghost use Rattle.std.specs.Prelude.{◌≡◌, ◌∷◌, [], ◌≤◌, length};
 ghost use Rattle.rules.specs.Places.{near};
 ghost use Rattle.checked_calls.specs.Answers.{of_answer, settled, laid};
@@ -11,7 +13,7 @@ use streams::refusal::StreamKind;
 use wire::bytes::{clear, shorter};
 
 // How many indexes are done, and how many bytes their texts have.
-#[derive(Drop)]
+#[derive(Clone, Copy)]
 pub struct Laid {
     pub done: usize,
     pub bytes: usize,

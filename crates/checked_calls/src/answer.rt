@@ -8,7 +8,7 @@ use streams::refusal::Refusal;
 use wire::bytes::clear;
 
 // A text of so many bytes at the start of the buffer, or a refusal.
-#[derive(Drop)]
+#[derive(Clone, Copy)]
 pub enum Answer {
     Text(usize),
     Refused(Refusal),

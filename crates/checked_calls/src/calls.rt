@@ -20,13 +20,13 @@ use streams::refusal::{Refusal, StreamKind};
 use streams::stream::StreamCheck;
 
 // What the checks of a call come to.
-#[derive(Drop)]
+#[derive(Clone, Copy)]
 pub enum Checked {
     Good(Call),
     Refused(Refusal),
 }
 
-#[derive(Drop)]
+#[derive(Clone, Copy)]
 pub enum SizeAnswer {
     Bytes(u64),
     Refused(Refusal),

@@ -9,13 +9,13 @@ use crate::record::{Entries, UniqueName};
 use wire::field::{Field16, Field32};
 use wire::name::{Name, NameRead};
 
-#[derive(Drop)]
+#[derive(Clone, Copy)]
 pub enum Names {
     Both(Name, UniqueName),
     Unended,
 }
 
-#[derive(Drop)]
+#[derive(Clone, Copy)]
 pub enum EntriesRead {
     Whole(Entries),
     Cut,

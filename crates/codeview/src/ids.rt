@@ -15,7 +15,7 @@ use streams::stream::Found;
 use wire::name::{Name, NameRead};
 
 // Whose function it is, the function's type, and its name.
-#[derive(Drop)]
+#[derive(Clone, Copy)]
 enum PartsRead {
     Whole(u32, u32, Name),
     Cut,

@@ -1,6 +1,6 @@
 // Type and id indexes: two counters over two streams. One never serves as the other.
-#[derive(Drop)]
+#[derive(Clone, Copy)]
 pub struct TypeIndex(pub u32);
 
-#[derive(Drop)]
+#[derive(Clone, Copy)]
 pub struct IdIndex(pub u32);

@@ -4,13 +4,13 @@ use streams::refusal::Refusal;
 use wire::name::Name;
 
 // A run of u32: where it starts and how many there are.
-#[derive(Drop)]
+#[derive(Clone, Copy)]
 pub struct Entries {
     pub count: u32,
     pub start: usize,
 }
 
-#[derive(Drop)]
+#[derive(Clone, Copy)]
 pub enum PointerMode {
     Pointer,
     LValueReference,
@@ -19,27 +19,27 @@ pub enum PointerMode {
     RValueReference,
 }
 
-#[derive(Drop)]
+#[derive(Clone, Copy)]
 pub enum ClassKind {
     Class,
     Struct,
     Interface,
 }
 
-#[derive(Drop)]
+#[derive(Clone, Copy)]
 pub enum UniqueName {
     Given(Name),
     Absent,
 }
 
 // A primitive: the code of its kind, and how many times it is pointed to (0 to 7).
-#[derive(Drop)]
+#[derive(Clone, Copy)]
 pub struct PrimitiveType {
     pub indirection: u32,
     pub code: u8,
 }
 
-#[derive(Drop)]
+#[derive(Clone, Copy)]
 pub struct ModifierType {
     pub underlying: TypeIndex,
     pub constant: bool,
@@ -48,7 +48,7 @@ pub struct ModifierType {
 }
 
 // `class` is the containing class of a pointer to a member, and index 0 for any other.
-#[derive(Drop)]
+#[derive(Clone, Copy)]
 pub struct PointerType {
     pub underlying: TypeIndex,
     pub constant: bool,
@@ -58,7 +58,7 @@ pub struct PointerType {
     pub class: TypeIndex,
 }
 
-#[derive(Drop)]
+#[derive(Clone, Copy)]
 pub struct ProcedureType {
     pub result: TypeIndex,
     pub constructor: bool,
@@ -66,7 +66,7 @@ pub struct ProcedureType {
     pub arguments: TypeIndex,
 }
 
-#[derive(Drop)]
+#[derive(Clone, Copy)]
 pub struct MemberFunctionType {
     pub result: TypeIndex,
     pub constructor: bool,
@@ -78,7 +78,7 @@ pub struct MemberFunctionType {
 }
 
 // The value stands as its bits, in `width` bytes.
-#[derive(Drop)]
+#[derive(Clone, Copy)]
 pub struct EnumerateType {
     pub attributes: u16,
     pub value: u64,
@@ -86,7 +86,7 @@ pub struct EnumerateType {
     pub name: Name,
 }
 
-#[derive(Drop)]
+#[derive(Clone, Copy)]
 pub struct ArrayType {
     pub element: TypeIndex,
     pub indexing: TypeIndex,
@@ -94,7 +94,7 @@ pub struct ArrayType {
     pub name: Name,
 }
 
-#[derive(Drop)]
+#[derive(Clone, Copy)]
 pub struct ClassType {
     pub kind: ClassKind,
     pub forward: bool,
@@ -107,7 +107,7 @@ pub struct ClassType {
     pub unique: UniqueName,
 }
 
-#[derive(Drop)]
+#[derive(Clone, Copy)]
 pub struct UnionType {
     pub forward: bool,
     pub count: u16,
@@ -117,7 +117,7 @@ pub struct UnionType {
     pub unique: UniqueName,
 }
 
-#[derive(Drop)]
+#[derive(Clone, Copy)]
 pub struct EnumerationType {
     pub forward: bool,
     pub count: u16,
@@ -127,7 +127,7 @@ pub struct EnumerationType {
     pub unique: UniqueName,
 }
 
-#[derive(Drop)]
+#[derive(Clone, Copy)]
 pub enum TypeData {
     Primitive(PrimitiveType),
     Modifier(ModifierType),
@@ -144,20 +144,20 @@ pub enum TypeData {
 }
 
 // What reading a type index gives.
-#[derive(Drop)]
+#[derive(Clone, Copy)]
 pub enum TypeRead {
     Good(TypeData),
     Refused(Refusal),
 }
 
-#[derive(Drop)]
+#[derive(Clone, Copy)]
 pub struct FunctionId {
     pub scope: IdIndex,
     pub function: TypeIndex,
     pub name: Name,
 }
 
-#[derive(Drop)]
+#[derive(Clone, Copy)]
 pub struct MemberFunctionId {
     pub parent: TypeIndex,
     pub function: TypeIndex,
@@ -165,13 +165,13 @@ pub struct MemberFunctionId {
 }
 
 // `list` is the id of a list of strings that stand before this one.
-#[derive(Drop)]
+#[derive(Clone, Copy)]
 pub struct StringId {
     pub list: IdIndex,
     pub name: Name,
 }
 
-#[derive(Drop)]
+#[derive(Clone, Copy)]
 pub enum IdData {
     Function(FunctionId),
     MemberFunction(MemberFunctionId),
@@ -181,7 +181,7 @@ pub enum IdData {
 }
 
 // What reading an id index gives.
-#[derive(Drop)]
+#[derive(Clone, Copy)]
 pub enum IdRead {
     Good(IdData),
     Refused(Refusal),

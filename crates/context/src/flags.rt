@@ -4,10 +4,10 @@ ghost use Rattle.context.specs.Context.{known};
 
 use streams::refusal::Refusal;
 
-#[derive(Drop)]
+#[derive(Clone, Copy)]
 pub struct TypeFormatterFlags(pub u32);
 
-#[derive(Drop)]
+#[derive(Clone, Copy)]
 pub enum FlagsRead {
     Known(TypeFormatterFlags),
     Refused(Refusal),
@@ -46,7 +46,7 @@ impl TypeFormatterFlags {
 }
 
 // What is the same for a whole call, and how many ids of the chain of scopes there are so far.
-#[derive(Drop)]
+#[derive(Clone, Copy)]
 pub struct Call {
     pub flags: TypeFormatterFlags,
     pub size: u32,

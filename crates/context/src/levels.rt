@@ -5,7 +5,7 @@ ghost use Rattle.context.specs.Context.{flags_byte, mode_byte, mode_at, level_by
 
 use codeview::record::PointerMode;
 
-#[derive(Drop)]
+#[derive(Clone, Copy)]
 pub struct PtrAttributes {
     pub constant: bool,
     pub pointee: bool,
@@ -13,13 +13,13 @@ pub struct PtrAttributes {
 }
 
 // Each level is packed in a byte, so that a stack of 96 is small: it is handed down by value.
-#[derive(Drop)]
+#[derive(Clone, Copy)]
 pub struct Levels {
     pub items: [u8; 96],
     pub left: usize,
 }
 
-#[derive(Drop)]
+#[derive(Clone, Copy)]
 pub struct Dimensions {
     pub items: [u64; 32],
     pub left: usize,

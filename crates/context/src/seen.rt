@@ -12,7 +12,7 @@ use streams::refusal::Refusal;
 
 // The ways in which an index is opened: as the type of a function, by itself, as a pointer's target, as the target of a pointer's modifier, as any other
 // modifier's target, as a method's argument list.
-#[derive(Drop)]
+#[derive(Clone, Copy)]
 pub enum Way {
     Function,
     Itself,

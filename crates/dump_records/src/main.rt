@@ -1,5 +1,7 @@
 // Prints the records of type and id streams as plain tables: a line for each record with its index, its kind and what was decoded.
 // Arguments come in pairs: `types FILE` or `ids FILE`.
+#![tactic(auto)]
+
 ghost use Rattle.std.specs.Prelude.{◌<◌};
 
 use codeview::index::{IdIndex, TypeIndex};

@@ -1,6 +1,8 @@
 // The text of a type index. The writers of types, pointers, methods and arguments call each other, and end because each index that is opened is one of at
 // most 96. They are lent one list for these: what is open lies from `left` on, and each writes only below. A writer that is given a stopped pen returns at
 // once.
+#![tactic(auto)]
+
 ghost use Rattle.std.specs.Prelude.{◌≡◌, ◌-◌, ◌≤◌, ◌<◌, length, false, [], ◌∷◌};
 ghost use Rattle.rules.specs.Text.{level};
 ghost use Rattle.rules.specs.Record.{method, procedure, arguments, type_contents};

@@ -1,5 +1,7 @@
 // What the programs share: reading files up to a limit, printing bytes, numbers and refusals, and a look at what a call left of a buffer. No contract can say
 // what is read or printed.
+#![tactic(auto)]
+
 ghost use Rattle.std.specs.Prelude.{◌≡◌, min, length};
 ghost use Rattle.io.specs.Counts.{IsPrefixLen};
 

@@ -1,4 +1,6 @@
 // The texts of functions and of ids. Each opens its function type first, in a list of its own; an id that is a scope counts in a chain of at most 32.
+#![tactic(auto)]
+
 ghost use Rattle.std.specs.Prelude.{◌≡◌, false, [], ◌+◌, ◌≤◌, ◌<◌, length};
 ghost use Rattle.interpreter.specs.Trace.{write};
 ghost use Rattle.utf8.specs.Utf8.{shown};

@@ -1,4 +1,6 @@
 // The crate holds definitions and laws only: what rules written as programs come to. A crate needs a function, and this is it.
+#![tactic(auto)]
+
 ghost use Rattle.std.specs.Prelude.{◌≡◌};
 
 pub fn same(x: u8) -> u8

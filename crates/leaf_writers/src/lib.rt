@@ -1,4 +1,6 @@
 // What is written and opens no index: numbers, marks, names and strings; what the settings of a call decide; what the writers of types share.
+#![tactic(auto)]
+
 pub mod attributes;
 pub mod brackets;
 pub mod fragments;

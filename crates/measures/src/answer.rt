@@ -7,13 +7,13 @@ use pen::{Pen, Stop};
 use streams::refusal::Refusal;
 
 // How many bytes a text has, and how many indexes are opened for it.
-#[derive(Drop)]
+#[derive(Clone, Copy)]
 pub struct Extent {
     pub length: usize,
     pub opened: u64,
 }
 
-#[derive(Drop)]
+#[derive(Clone, Copy)]
 pub enum Measure {
     Text(Extent),
     Refused(Refusal),

@@ -1,5 +1,7 @@
 // Measuring (document 02, Note 4): how long the text of a function, of an id or of a type will be, and how many indexes are opened for it. No buffer is lent, and
 // nothing is written. Each call checks its streams, as the text calls do.
+#![tactic(auto)]
+
 ghost use Rattle.std.specs.Prelude.{◌≡◌};
 ghost use Rattle.rules.specs.Measure.{function_measure, FunctionMeasureDemand, id_measure, IdMeasureDemand, type_measure, TypeMeasureDemand, of_measure};
 ghost use Rattle.measures.specs.Measures.{of_measured};

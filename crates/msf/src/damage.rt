@@ -3,7 +3,7 @@ ghost use Rattle.std.specs.Prelude.{◌≡◌};
 ghost use Rattle.msf.specs.Damage.{number_of, place_of};
 
 // With the place in the file of the number that is wrong; `Short` has the file's length and `NoRoom` the length that is needed.
-#[derive(Drop)]
+#[derive(Clone, Copy)]
 pub enum Damage {
     Short(usize),
     Magic(usize),
@@ -20,7 +20,7 @@ pub enum Damage {
 }
 
 // What a check comes to.
-#[derive(Drop)]
+#[derive(Clone, Copy)]
 pub enum Checked {
     Good,
     Damaged(Damage),

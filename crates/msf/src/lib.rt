@@ -1,4 +1,6 @@
 // The container of a .pdb (LLVM, "The MSF File Format"): the bytes of one stream of a file, or what is wrong with the file.
+#![tactic(auto)]
+
 ghost use Rattle.std.specs.Prelude.{◌≡◌, ◌++◌, ◌+◌, ◌≤◌, ◌<◌, length, take, drop};
 ghost use Rattle.msf.specs.Contents.{bytes_from, stream_bytes, checked, stream_of, in_front, given, laid};
 ghost use Rattle.msf.specs.Inner.{Sound, Listed};
@@ -14,7 +16,7 @@ use superblock::{Superblock, blocks_for, check_superblock, superblock_of, wide};
 use wire::bytes::{clear, copy, shorter};
 
 // A stream of so many bytes at the start of the buffer, or why there is none.
-#[derive(Drop)]
+#[derive(Clone, Copy)]
 pub enum StreamRead {
     Bytes(usize),
     Refused(Damage),

@@ -6,7 +6,7 @@ use crate::damage::{Checked, Damage};
 use wire::field::{Field32, u32_at};
 
 // The numbers of a superblock: the size of a block, the block of the free map, how many blocks, the bytes of the directory, the block of its map.
-#[derive(Drop)]
+#[derive(Clone, Copy)]
 pub struct Superblock {
     pub size: u32,
     pub free: u32,

@@ -1,4 +1,6 @@
 // Prints the lines of the sheet `sheet.bin` over the streams `types.bin` and `ids.bin`, all in the folder that it runs in.
+#![tactic(auto)]
+
 fn main() {
     let mut types = sheet_printer::room();
     let t = files::load(b"types.bin", &mut types);

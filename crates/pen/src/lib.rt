@@ -1,5 +1,7 @@
 // The pen: where the next byte goes, what was written last, how many indexes were opened, and whether writing has stopped. A stopped pen writes nothing.
 // Where the buffer is shorter than the pen's limit the bytes past its end are counted only.
+#![tactic(auto)]
+
 ghost use Rattle.std.specs.Prelude.{◌≡◌, [], ◌-◌, ◌/◌, ◌%◌, length, set};
 ghost use Rattle.interpreter.specs.Trace.{tr, refused, halted, long, count};
 ghost use Rattle.pen.specs.Page.{read_pen, page, read_page, put, unless_stopped, Wrote, last_since, resumed, refused_pen, missed_pen, unread_pen, writing, idle, unread_trace, Past, next_tally, opened_pen};
@@ -8,7 +10,7 @@ use streams::refusal::Refusal;
 use wire::bytes::copy;
 
 // How a pen has stopped.
-#[derive(Drop)]
+#[derive(Clone, Copy)]
 pub enum Stop {
     No,
     Missing(u32),
@@ -18,7 +20,7 @@ pub enum Stop {
 // What no refusal has as its number: an index is missing, and the text that is being written ends.
 pub const MISSING: u32 = 255;
 
-#[derive(Drop)]
+#[derive(Clone, Copy)]
 pub struct Pen {
     pub at: usize,
     // The last byte, and above it how many indexes were opened, in one number: a struct of four words without gaps is copied fast.

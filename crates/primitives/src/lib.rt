@@ -1,10 +1,12 @@
 // The primitive types: one table of 43 kinds, searched by the low byte of a primitive's index.
+#![tactic(auto)]
+
 ghost use Rattle.std.specs.Prelude.{◌≡◌, true, false, ◌≤◌, ◌%◌, length, get_or, take};
 ghost use Rattle.primitives.specs.Primitive.{primitives, first_of, place_of, empty, listed, nowhere, named};
 ghost use Rattle.primitives.specs.Primitive.{seek, seek_with_len, words_of, spread_of};
 
 // A kind: its code, its byte size, and its name, which is the first `len` of the bytes.
-#[derive(Drop)]
+#[derive(Clone, Copy)]
 pub struct PrimitiveKind {
     pub code: u8,
     pub size: u8,
@@ -13,21 +15,21 @@ pub struct PrimitiveKind {
 }
 
 // What a search finds. Where no kind has the code, the kind is empty.
-#[derive(Drop)]
+#[derive(Clone, Copy)]
 pub struct PrimitiveSearch {
     pub listed: bool,
     pub kind: PrimitiveKind,
 }
 
 // The name of a kind by itself.
-#[derive(Drop)]
+#[derive(Clone, Copy)]
 pub struct KindName {
     pub len: usize,
     pub bytes: [u8; 20],
 }
 
 // The bytes of a name in numbers of eight bytes, the first byte the lowest.
-#[derive(Drop)]
+#[derive(Clone, Copy)]
 struct NameWords(u64, u64, u64);
 
 const PRIMITIVES: [PrimitiveKind; 43] = [

@@ -9,7 +9,7 @@ use context::levels::Dimensions;
 use streams::refusal::Refusal;
 
 // How the levels of an array end: at a base, at a 33rd level, or at a record that could not be read.
-#[derive(Drop)]
+#[derive(Clone, Copy)]
 pub enum ArrayEnd {
     Base(TypeData),
     TooLong,
@@ -17,7 +17,7 @@ pub enum ArrayEnd {
 }
 
 // The byte sizes of the levels, the index behind the last of them, and what that is. (An enum cannot hold an array, so the sizes stand beside it.)
-#[derive(Drop)]
+#[derive(Clone, Copy)]
 pub struct ArrayInfo {
     pub sizes: Dimensions,
     pub base: TypeIndex,

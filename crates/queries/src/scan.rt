@@ -23,7 +23,7 @@ use streams::stream::{
 use wire::name::Name;
 
 // What a record says of a forward reference: its size, or nothing.
-#[derive(Drop)]
+#[derive(Clone, Copy)]
 enum FullRead {
     Full(u64),
     Other,

@@ -13,7 +13,7 @@ use codeview::types::type_at;
 use context::flags::Call;
 
 // A size, or the index of the record that is one too many of a chain.
-#[derive(Drop)]
+#[derive(Clone, Copy)]
 pub enum SizeRead {
     Bytes(u64),
     TooLong(u32),

@@ -10,7 +10,7 @@ use codeview::types::type_at;
 use streams::refusal::Refusal;
 
 // What a this pointer is: one to the given class (and whether the class is const), another type, or one that could not be read.
-#[derive(Drop)]
+#[derive(Clone, Copy)]
 pub enum ThisRead {
     Given(bool),
     Other,

@@ -1,4 +1,6 @@
 // Record places kept beside the stream: the pass that fills them, and the check of lent ones, which is that of the stream too.
+#![tactic(auto)]
+
 ghost use Rattle.std.specs.Prelude.{◌≡◌, true, ◌-◌, ◌*◌, ◌≤◌, ◌<◌, length, replicate};
 ghost use Rattle.streams.specs.Stream.{checked};
 ghost use Rattle.streams.specs.declared.refusal.StreamKind.TheVariants.{Types};
@@ -13,35 +15,35 @@ use streams::refusal::{Refusal, StreamKind};
 use streams::stream::{Head, Place, Stream, StreamCheck, behind_records, header_of};
 
 // Whether lent places are those of the stream: else the number of the first that is lacking or another.
-#[derive(Drop)]
+#[derive(Clone, Copy)]
 pub enum PlacesCheck {
     Right,
     Wrong(u32),
 }
 
 // What the pass says: how many entries it filled, or a refusal.
-#[derive(Drop)]
+#[derive(Clone, Copy)]
 pub enum PlacesAnswer {
     Filled(usize),
     Refused(Refusal),
 }
 
 // The check of a stream, and of the places that were lent for it.
-#[derive(Drop)]
+#[derive(Clone, Copy)]
 pub struct PlacedCheck {
     pub check: StreamCheck,
     pub places: PlacesCheck,
 }
 
 // Where the records end, and what the lent places are where they do.
-#[derive(Drop)]
+#[derive(Clone, Copy)]
 pub struct Comparison {
     pub end: Place,
     pub places: PlacesCheck,
 }
 
 // So many entries are known to be right, and the next is due at this place.
-#[derive(Drop)]
+#[derive(Clone, Copy)]
 pub struct Known {
     pub k: u32,
     pub at: usize,

@@ -6,7 +6,7 @@ ghost use Rattle.sheet.specs.Command.{command_at, function_at, sized_at, word_co
 use wire::field::{Field8, Field32, u8_at, u32_at};
 
 // A command with its u32 or its pointer size; the end of the sheet; or the byte of a command that is unknown or cut.
-#[derive(Drop)]
+#[derive(Clone, Copy)]
 pub enum Command {
     End,
     Flags(u32),

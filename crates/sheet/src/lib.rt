@@ -1,4 +1,6 @@
 // Sheets: lists of commands, each text or size asked for answered by a line.
+#![tactic(auto)]
+
 ghost use Rattle.std.specs.Prelude.{◌≡◌, false, ◌+◌, ◌-◌, ◌≤◌, ◌<◌, ltb, length};
 ghost use Rattle.rules.specs.Places.{near};
 ghost use Rattle.rules.specs.Record.{name_at};
@@ -22,7 +24,7 @@ pub mod command;
 pub mod line;
 
 // Where a sheet has been read to, how many lines that makes, and what holds for the next command.
-#[derive(Drop)]
+#[derive(Clone, Copy)]
 pub struct State {
     pub at: usize,
     pub lines: usize,
@@ -31,7 +33,7 @@ pub struct State {
 }
 
 // What a command does: nothing, at the end; set something; print the line of an unknown byte and end; print a line.
-#[derive(Drop)]
+#[derive(Clone, Copy)]
 pub enum Step {
     Over,
     Setting,
@@ -40,14 +42,14 @@ pub enum Step {
 }
 
 // How many bytes are printed after a line, and whether there was no room for it.
-#[derive(Drop)]
+#[derive(Clone, Copy)]
 pub struct Put {
     pub at: usize,
     pub full: bool,
 }
 
 // How many bytes and lines were printed, and whether lines are left that did not fit.
-#[derive(Drop)]
+#[derive(Clone, Copy)]
 pub struct Printed {
     pub bytes: usize,
     pub lines: usize,

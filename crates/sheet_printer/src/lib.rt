@@ -1,4 +1,6 @@
 // Prints a sheet's lines on standard output, as many at a time as a lent buffer takes.
+#![tactic(auto)]
+
 ghost use Rattle.std.specs.Prelude.{◌≡◌, length};
 ghost use Rattle.sheet.specs.Sheet.{sheet_lines, sheet_fit};
 ghost use Rattle.sheet.specs.Printed.{shown, laid_out, SheetContinues};

@@ -10,34 +10,34 @@ use crate::stream::{Head, Place, Stream, StreamCheck, behind_record, header_of, 
 use wire::bytes::shorter;
 
 // How many records a chain has up to its goal, or that it does not come there or has too many.
-#[derive(Drop)]
+#[derive(Clone, Copy)]
 pub enum Chain {
     Met(u32),
     Apart,
 }
 
 // How the places are laid out where the chains meet.
-#[derive(Drop)]
+#[derive(Clone, Copy)]
 pub enum Chains {
     Met(Spacing),
     Apart,
 }
 
 // How many entries are noted, and after how many records the next is due.
-#[derive(Drop)]
+#[derive(Clone, Copy)]
 pub struct Due {
     pub k: usize,
     pub wait: u32,
 }
 
-#[derive(Drop)]
+#[derive(Clone, Copy)]
 pub enum FourPlaces {
     At(usize, usize, usize, usize),
     Beyond,
 }
 
 // Where four chains are, each so many records from where it was.
-#[derive(Drop)]
+#[derive(Clone, Copy)]
 pub struct Four {
     pub a: usize,
     pub b: usize,
@@ -47,7 +47,7 @@ pub struct Four {
 }
 
 // Where four chains are, each so many records from its start.
-#[derive(Drop)]
+#[derive(Clone, Copy)]
 pub struct Steps {
     pub a: usize,
     pub b: usize,

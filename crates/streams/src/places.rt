@@ -12,7 +12,7 @@ use crate::stream::{
 
 // How places are laid out: in four parts of `room` entries, each with the place of every `stride`-th record of its own, and the numbers of the records
 // that the second, third and fourth part start with. One part alone has the others start at 0xffffffff.
-#[derive(Drop)]
+#[derive(Clone, Copy)]
 pub struct Spacing {
     pub stride: u32,
     pub room: u32,
@@ -22,21 +22,21 @@ pub struct Spacing {
 }
 
 // A record that is known: its number, counted from 0, and its place.
-#[derive(Drop)]
+#[derive(Clone, Copy)]
 pub struct Mark {
     pub number: u32,
     pub place: usize,
 }
 
 // A part of the places: where its entries start, and the number of its first record.
-#[derive(Drop)]
+#[derive(Clone, Copy)]
 pub struct Part {
     pub from: usize,
     pub base: u32,
 }
 
 // The answer of a check, and how the places are laid out that it noted.
-#[derive(Drop)]
+#[derive(Clone, Copy)]
 pub struct NotedCheck {
     pub check: StreamCheck,
     pub spacing: Spacing,

@@ -3,13 +3,13 @@ ghost use Rattle.std.specs.Prelude.{◌≡◌};
 ghost use Rattle.streams.specs.Refusal.{stream_detail, number_of, detail_of, stream_of_detail, refusal_of};
 
 // Which of the two streams a refusal speaks of.
-#[derive(Drop)]
+#[derive(Clone, Copy)]
 pub enum StreamKind {
     Types,
     Ids,
 }
 
-#[derive(Drop)]
+#[derive(Clone, Copy)]
 pub enum Refusal {
     UnknownFlags(u32),
     PointerSize(u32),

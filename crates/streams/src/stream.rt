@@ -12,21 +12,21 @@ use wire::bytes::shorter;
 use wire::field::Field32;
 
 // What the check found in a header: the indexes from `first` up to `end`, and the place where the records stop.
-#[derive(Drop)]
+#[derive(Clone, Copy)]
 pub struct Stream {
     pub first: u32,
     pub end: u32,
     pub stop: usize,
 }
 
-#[derive(Drop)]
+#[derive(Clone, Copy)]
 pub enum StreamCheck {
     Good(Stream),
     Refused(Refusal),
 }
 
 // What stands for an index: the kind of a record and the places of its fields, no record, or an index of another module.
-#[derive(Drop)]
+#[derive(Clone, Copy)]
 pub enum Found {
     Record { kind: u16, start: usize, end: usize },
     Missing,
@@ -34,28 +34,28 @@ pub enum Found {
 }
 
 // An index, and the place where its record stands.
-#[derive(Drop)]
+#[derive(Clone, Copy)]
 pub struct Cursor {
     pub index: u32,
     pub at: usize,
 }
 
 // What a walk to an index came to: its record, no record, or an index of another module.
-#[derive(Drop)]
+#[derive(Clone, Copy)]
 pub enum CursorRead {
     At(Cursor),
     Missing,
     CrossModule,
 }
 
-#[derive(Drop)]
+#[derive(Clone, Copy)]
 pub enum Head {
     Good(u32, u32, usize),
     Broken,
 }
 
 // A place that a walk over records came to, or that it went past their end.
-#[derive(Drop)]
+#[derive(Clone, Copy)]
 pub enum Place {
     At(usize),
     Beyond,

@@ -1,5 +1,7 @@
 // Runs lists of calls over small streams and prints a line for each call.
 // An argument NAME stands for NAME-types.bin, NAME-ids.bin and NAME-calls.bin; data/README.md has the form of the last.
+#![tactic(auto)]
+
 use checked_calls::answer::Answer;
 use checked_calls::calls::SizeAnswer;
 use codeview::index::{IdIndex, TypeIndex};
@@ -8,7 +10,7 @@ use libc::STDERR_FILENO;
 use wire::field::Field32;
 
 // Where a list of calls has been read to, how many calls it made, and what holds for the next one.
-#[derive(Drop)]
+#[derive(Clone, Copy)]
 struct State {
     at: usize,
     number: u64,

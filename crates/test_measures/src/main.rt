@@ -1,6 +1,8 @@
 // Runs sheets and prints a line for each text command: how long the text is, and how many indexes are opened for it.
 // An argument NAME stands for NAME-types.bin, NAME-ids.bin, NAME-sheet.bin and, where the calls are lent places, NAME-places.bin; data/README.md says what
 // these are.
+#![tactic(auto)]
+
 use codeview::index::{IdIndex, TypeIndex};
 use files::{decimal, entries_within, load_if_there, load_named, numbers, refused, say, title};
 use leaf_writers::names::name_of;
@@ -11,7 +13,7 @@ use streams::refusal::Refusal;
 use wire::name::Name;
 
 // Where a sheet has been read to, how many lines it printed, what holds for the next call, and whether the calls are lent places.
-#[derive(Drop)]
+#[derive(Clone, Copy)]
 struct State {
     at: usize,
     number: u64,

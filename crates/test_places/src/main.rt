@@ -1,5 +1,7 @@
 // Runs sheets whose calls are lent places, then the pass that fills places, and prints a line for each call.
 // An argument NAME stands for NAME-types.bin, NAME-ids.bin, NAME-places.bin, NAME-sheet.bin and NAME-lengths.bin; data/README.md says what these are.
+#![tactic(auto)]
+
 use checked_calls::answer::Answer;
 use checked_calls::calls::SizeAnswer;
 use codeview::index::{IdIndex, TypeIndex};
@@ -14,7 +16,7 @@ use type_formatter::placed;
 use wire::name::Name;
 
 // Where a sheet has been read to, how many lines it printed, and what holds for the next call.
-#[derive(Drop)]
+#[derive(Clone, Copy)]
 struct State {
     at: usize,
     number: u64,

@@ -1,4 +1,5 @@
 // Prints the lines of sheets, one after the other. An argument NAME stands for NAME-types.bin, NAME-ids.bin and NAME-sheet.bin.
+#![tactic(auto)]
 
 // The least buffer that takes every line, so that a long sheet is printed in many turns.
 fn line_buffer() -> [u8; 4150] {

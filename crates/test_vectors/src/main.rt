@@ -1,5 +1,7 @@
 // Prints the texts of every id, type and function type and the size of every type of pairs of streams.
 // An argument NAME stands for NAME-types.bin and NAME-ids.bin.
+#![tactic(auto)]
+
 use checked_calls::answer::Answer;
 use checked_calls::calls::SizeAnswer;
 use codeview::index::{IdIndex, TypeIndex};
@@ -10,7 +12,7 @@ use streams::refusal::StreamKind;
 use streams::stream::StreamCheck;
 
 // Which of the four calls is made.
-#[derive(Drop)]
+#[derive(Clone, Copy)]
 enum Call {
     Id,
     Type,

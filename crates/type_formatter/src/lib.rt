@@ -1,5 +1,7 @@
 // The four calls: the text of a function, of an id and of a type, and the size of a type. Each checks its streams and notes places of their records;
 // `checked_calls` does the rest.
+#![tactic(auto)]
+
 ghost use Rattle.std.specs.Prelude.{◌≡◌, ℕ, length};
 ghost use Rattle.rules.specs.Call.{function_outcome, FunctionDemand, id_outcome, IdDemand, type_outcome, TypeDemand, size_outcome, of_size, SizeFinished};
 ghost use Rattle.checked_calls.specs.Answers.{given, laid};

@@ -1,4 +1,6 @@
 // UTF-8: how far bytes are well-formed, and the part at a place, by table 3-7 of the Unicode Standard.
+#![tactic(auto)]
+
 ghost use Rattle.std.specs.Prelude.{◌≡◌, ◌+◌, ◌≤◌, ◌<◌, length, drop};
 ghost use Rattle.utf8.specs.Utf8.{behind, fitting};
 ghost use Rattle.utf8.specs.Parts.{lead_of, ranges, behind_lead, part_at, run, ascii_at};
@@ -6,7 +8,7 @@ ghost use Rattle.utf8.specs.Parts.{lead_of, ranges, behind_lead, part_at, run, a
 use wire::field::left;
 
 // What a byte says of those behind it: the range of the next one, and how many there are. None follow a byte that begins no sequence.
-#[derive(Drop)]
+#[derive(Clone, Copy)]
 pub struct Lead {
     pub low: u8,
     pub high: u8,
@@ -14,7 +16,7 @@ pub struct Lead {
 }
 
 // A part: its length, and whether it is a well-formed sequence.
-#[derive(Drop)]
+#[derive(Clone, Copy)]
 pub struct Part {
     pub len: usize,
     pub whole: bool,

@@ -2,25 +2,25 @@
 ghost use Rattle.std.specs.Prelude.{◌≡◌, ◌+◌, ◌-◌, ◌≤◌, ◌<◌, length};
 ghost use Rattle.wire.specs.Field.{number, field8, field16, field32, field64};
 
-#[derive(Drop)]
+#[derive(Clone, Copy)]
 pub enum Field8 {
     Value(u8),
     Outside,
 }
 
-#[derive(Drop)]
+#[derive(Clone, Copy)]
 pub enum Field16 {
     Value(u16),
     Outside,
 }
 
-#[derive(Drop)]
+#[derive(Clone, Copy)]
 pub enum Field32 {
     Value(u32),
     Outside,
 }
 
-#[derive(Drop)]
+#[derive(Clone, Copy)]
 pub enum Field64 {
     Value(u64),
     Outside,

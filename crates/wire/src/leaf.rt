@@ -6,7 +6,7 @@ ghost use Rattle.wire.specs.declared.leaf.Leaf.TheVariants.{Number, Unread};
 use crate::field::{Field8, Field16, Field32, Field64};
 
 // What is read at a leaf: the number, the width of its value and the place behind it.
-#[derive(Drop)]
+#[derive(Clone, Copy)]
 pub enum Leaf {
     Number {
         value: u64,

@@ -5,13 +5,13 @@ ghost use Rattle.wire.specs.Name.{zero_among, name_end, name_answer};
 use crate::field::left;
 
 // The bytes of a name: where they start and how many there are, without the closing zero.
-#[derive(Drop)]
+#[derive(Clone, Copy)]
 pub struct Name {
     pub start: usize,
     pub len: usize,
 }
 
-#[derive(Drop)]
+#[derive(Clone, Copy)]
 pub enum NameRead {
     Ended(Name),
     Unended,

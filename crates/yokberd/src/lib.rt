@@ -1,5 +1,7 @@
 // The calls for programs in C and Rust: each of the four calls, the measures, the batches, the sheet, the places and the container under its plain name, with
 // numbers and slices only. What a call answers beside its number goes into numbers that the caller lends. `c/yokberd.h` says the same to a C program.
+#![tactic(auto)]
+
 ghost use Rattle.std.specs.Prelude.{◌≡◌, [], ℕ, length};
 ghost use Rattle.rules.specs.Call.{function_outcome, FunctionDemand, id_outcome, IdDemand, type_outcome, TypeDemand, size_outcome, SizeFinished, report, of_size};
 ghost use Rattle.rules.specs.Placed.{function_placed, FunctionPlacedDemand, id_placed, IdPlacedDemand, type_placed, TypePlacedDemand, size_placed, SizeAsPlain};
