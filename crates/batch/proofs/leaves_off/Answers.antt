@@ -1,0 +1,14 @@
+-- With a text before it, and 15.
+use borrow.Author.Rules.{rules}
+use native.Mathlib.Omega.{arith}
+use Rattle.batch.proofs.BatchLaws.{stays-text, stays-first, leaves_by}
+use Rattle.batch.proofs.leaves_off.Goals as goal
+
+pub returns-then-at-eq0 : goal.returns-then-at-eq0
+returns-then-at-eq0 c = stays-first _ c.if-at-eq0.true
+
+pub returns-in-Text : goal.returns-in-Text
+returns-in-Text c = stays-text _ c.in-Text.is
+
+pub returns-else-at-eq0 : goal.returns-else-at-eq0
+returns-else-at-eq0 c = leaves_by _ c.in-Refused.is (omega arith) c.number.ensures

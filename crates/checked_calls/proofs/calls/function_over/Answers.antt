@@ -1,0 +1,7 @@
+-- The text as it was written; where the call is refused, zeros.
+use borrow.Author.Rules.{rules}
+use mathlib.Core.Path.{◌∙◌}
+use Rattle.checked_calls.proofs.calls.function_over.Goals as goal
+
+pub returns : goal.returns
+returns c = c.settle.ensures ∙ c.function_text-a.ensures

@@ -1,0 +1,11 @@
+-- The walk where the checks are good, and the refusal where they are not.
+use Rattle.context.proofs.Opening.{wrote-first}
+use Rattle.checked_calls.proofs.CallsLaws.{type-good, type-refused}
+use borrow.Author.Rules.{rules}
+use Rattle.checked_calls.proofs.calls.walk_type.Goals as goal
+
+pub returns-in-Good : goal.returns-in-Good
+returns-in-Good c = type-good _ _ _ _ c.check_call.ensures _ c.args.limit c.in-Good.is (wrote-first c.emit_type_index.ensures (search rules)) c.start-a.ensures
+
+pub returns-in-Refused : goal.returns-in-Refused
+returns-in-Refused c = type-refused _ _ _ _ c.check_call.ensures _ c.args.limit c.in-Refused.is c.refuse.ensures c.start-a.ensures

@@ -1,0 +1,15 @@
+-- What is set below a stack is its newest.
+use borrow.Author.Rules.{rules}
+use native.Mathlib.Omega.{arith}
+use Rattle.context.specs.Context.{level_at, levels_of, pushed_level}
+use Rattle.context.proofs.Laws.{levels-push, unpacked}
+use mathlib.Core.Path.{◌≡◌, refl, ap, ◌∙◌}
+use lib.ListN.{length}
+use Rattle.context.proofs.levels.push_level.Reads as reads
+use Rattle.context.proofs.levels.push_level.Lts as lts
+use Rattle.context.proofs.levels.pack.Reads as pack-reads
+use Rattle.context.proofs.levels.push_level.Goals as goal
+
+pub returns : goal.returns
+unfolding levels_of pushed_level
+returns c = let n : length c.args.o.items ≡ 96 = search rules in record { is = rw c.pack-b.ensures; left = refl; levels = levels-push c.args.o.items c.args.o.left c.pack-b.result _ (omega (arith, c.requires)) (omega (arith, c.requires)) (ap level_at c.pack-b.ensures ∙ unpacked _ _ _) }

@@ -1,0 +1,25 @@
+use borrow.Author.Rules.{rules}
+use native.Mathlib.Omega.{arith}
+use Prim.Native.Nat.{◌≤◌, ◌-◌}
+use mathlib.Core.Path.{◌≡◌, refl, ap, sym, ◌∙◌}
+use lib.ListN.{length, drop}
+use Rattle.rules.specs.Text.{brackets}
+use Rattle.pen.specs.Page.{page, Wrote, writing}
+use Rattle.pen.proofs.Laws.{◌▹◌, wrote_as, wrote_by, wrote_none}
+use Rattle.context.specs.Context.{sizes_of}
+use Rattle.leaf_writers.specs.Signs.{inside}
+use Rattle.leaf_writers.proofs.BracketsLaws.{brackets-start, brackets-turn, brackets-whole, drop_past}
+use Rattle.leaf_writers.proofs.brackets.emit_brackets.Goals as goal
+
+pub loop-n-init : goal.loop-n-init
+loop-n-init c = let e : length c.args.o.items ≡ 32 = search rules in (e, omega arith, (λ h. drop_past c.args.o.items c.args.o.left c.args.size e h), refl, wrote_as (brackets-start c.args.o.items c.args.o.left c.args.size e) wrote_none)
+
+pub loop-n-preserved : goal.loop-n-preserved
+loop-n-preserved c = let e : length c.args.o.items ≡ 32 = c.loop-n.invariant.0 in (e, omega arith, (λ h. let k : c.loop-n.n - 1 ≡ c.args.o.left = omega arith in ap (λ k. drop k c.args.o.items) k), cc, wrote_by (c.loop-n.invariant.4 ▹ c.emit_bracket-q.ensures) (brackets-turn c.args.o.items c.args.o.left c.args.size e c.loop-n.n _ _ c.loop-n-test.true c.loop-n.invariant.1 refl c.size_inside.ensures))
+
+pub shape_of-out : goal.shape_of-out
+shape_of-out c = c.loop-n.invariant.3
+
+pub returns : goal.returns
+unfolding sizes_of
+returns c = wrote_by c.loop-n.invariant.4 (brackets-whole c.args.o.items c.args.o.left c.args.size c.loop-n.invariant.0 c.loop-n.n (omega arith) (c.loop-n.invariant.2 (omega arith)))

@@ -1,0 +1,11 @@
+-- A flag's weight is the place of its bit.
+use mathlib.Core.Path.{◌∙◌}
+use Rattle.rules.specs.Flags.{settings}
+use Rattle.context.specs.Context.{settings_of}
+use Rattle.context.proofs.Laws.{flag-bit}
+use borrow.Author.Rules.{rules}
+use Rattle.leaf_writers.proofs.settings.space_comma.Goals as goal
+
+pub returns : goal.returns
+unfolding settings_of settings
+returns c = c.intersects.ensures ∙ flag-bit 2 _

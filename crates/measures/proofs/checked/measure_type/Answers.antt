@@ -1,0 +1,11 @@
+-- The measure over what the buffer keeps; kept of the same bytes it is the plain one.
+use mathlib.Core.Path.{◌∙◌, ap}
+use Rattle.rules.specs.Measure.{measure_of, of_measure, type_measure}
+use Rattle.rules.specs.Call.{Outcome}
+use Rattle.checked_calls.proofs.CallsLaws.{type-over}
+use borrow.Author.Rules.{rules}
+use Rattle.measures.proofs.checked.measure_type.Goals as goal
+
+pub returns : goal.returns
+unfolding type_measure
+returns c = let e = (rw (c.numbers_of-numbers.ensures, c.places_behind-places.ensures) at c.type_over.ensures) in (e, λ k. e ∙ ap (λ (o : Outcome). of_measure (measure_of o)) (type-over _ _ k _ _ _ _))

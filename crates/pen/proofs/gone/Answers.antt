@@ -1,0 +1,6 @@
+-- The two numbers are the refusal's.
+use borrow.Author.Rules.{rules}
+use Rattle.pen.proofs.gone.Goals as goal
+
+pub returns : goal.returns
+returns c = rw (c.number.ensures, c.detail.ensures)

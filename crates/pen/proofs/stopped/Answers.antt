@@ -1,0 +1,14 @@
+-- By whether the pen has stopped.
+use mathlib.Core.Path.{sym}
+use Rattle.pen.specs.Page.{refused_pen}
+use Rattle.pen.proofs.Laws.{stopped-keeps, stop-none}
+use borrow.Author.Rules.{rules}
+use Rattle.pen.proofs.stopped.Goals as goal
+
+pub returns-then-p-ne0 : goal.returns-then-p-ne0
+unfolding refused_pen
+returns-then-p-ne0 c = sym (stopped-keeps c.args.p _ _ c.if-p-ne0.true)
+
+pub returns : goal.returns
+unfolding refused_pen
+returns c = rw (stop-none c.args.p c.if-p-ne0.false) c.gone.ensures

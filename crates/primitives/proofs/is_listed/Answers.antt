@@ -1,0 +1,7 @@
+-- A code is listed where its place is one of the table.
+use borrow.Author.Rules.{rules}
+use Rattle.primitives.proofs.Table.{listed_at}
+use Rattle.primitives.proofs.is_listed.Goals as goal
+
+pub returns : goal.returns
+returns c = rw c.find_place.ensures (listed_at c.args.code)

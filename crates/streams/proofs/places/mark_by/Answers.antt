@@ -1,0 +1,6 @@
+-- The numbers are the spacing's.
+use borrow.Author.Rules.{rules}
+use Rattle.streams.proofs.places.mark_by.Goals as goal
+
+pub returns : goal.returns
+returns c = c.mark_of.ensures

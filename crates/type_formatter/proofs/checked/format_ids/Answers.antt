@@ -1,0 +1,9 @@
+-- The batch over what the buffer keeps; kept of the same bytes it is the plain one.
+use borrow.Author.Rules.{rules}
+use mathlib.Core.Path.{◌∙◌, ap}
+use Rattle.batch.specs.Batch.{laid_batch}
+use Rattle.batch.proofs.BatchLaws.{id-batch-kept, batch-goes-on}
+use Rattle.type_formatter.proofs.checked.format_ids.Goals as goal
+
+pub returns : goal.returns
+returns c = let e = (rw (c.numbers_of-numbers.ensures, c.places_behind-places.ensures) at c.texts_over.ensures.0) in (e, (λ k. e ∙ ap (laid_batch _ _) (id-batch-kept _ _ _ _ _ _ _ _ k), batch-goes-on _ _ _ _))

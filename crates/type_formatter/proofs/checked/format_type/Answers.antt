@@ -1,0 +1,9 @@
+-- The call over what the buffer keeps; kept of the same bytes it is the plain one.
+use mathlib.Core.Path.{◌∙◌, ap}
+use Rattle.checked_calls.specs.Answers.{laid}
+use Rattle.checked_calls.proofs.CallsLaws.{type-over}
+use borrow.Author.Rules.{rules}
+use Rattle.type_formatter.proofs.checked.format_type.Goals as goal
+
+pub returns : goal.returns
+returns c = let e = (rw (c.numbers_of.ensures, c.places_behind.ensures) at c.type_over.ensures) in (e, λ k. e ∙ ap (laid _) (type-over _ _ k _ _ _ _))

@@ -1,0 +1,9 @@
+-- The call over what the buffer keeps; kept of the same bytes it is the plain one.
+use mathlib.Core.Path.{◌∙◌, ap}
+use Rattle.rules.specs.Call.{of_size}
+use Rattle.checked_calls.proofs.CallsLaws.{size-over}
+use borrow.Author.Rules.{rules}
+use Rattle.type_formatter.proofs.checked.get_type_size.Goals as goal
+
+pub returns : goal.returns
+returns c = let e = (rw (c.numbers_of.ensures, c.places_behind.ensures) at c.size_over.ensures) in (e, λ k. e ∙ ap of_size (size-over _ _ k _ _))

@@ -1,0 +1,9 @@
+-- The lines over what the buffer keeps; kept of the same bytes they are the plain ones.
+use mathlib.Core.Path.{◌∙◌, ap}
+use Rattle.sheet.specs.Printed.{laid_out}
+use Rattle.sheet.proofs.SheetLaws.{fit-kept-of}
+use borrow.Author.Rules.{rules}
+use Rattle.type_formatter.proofs.checked.print_sheet.Goals as goal
+
+pub returns : goal.returns
+returns c = let e = (rw (c.numbers_of-numbers.ensures, c.places_behind-places.ensures) at c.print_over.ensures) in (e.0, (λ k. e.0 ∙ ap (laid_out _) (fit-kept-of _ _ c.args.sheet.now _ k c.args.skip _), e.1))

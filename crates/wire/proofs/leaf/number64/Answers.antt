@@ -1,0 +1,17 @@
+-- The field's two cases are the number's.
+use Rattle.wire.specs.Leaf.{payload}
+use Rattle.wire.proofs.Laws.{within64, read64, unread64}
+use native.Mathlib.Omega.{arith}
+use borrow.Author.Rules.{rules}
+use Rattle.wire.proofs.leaf.number64.Goals as goal
+
+pub returns-in_default : goal.returns-in_default
+unfolding payload
+returns-in_default c = rw (unread64 _ _ c.u64_at.ensures c.in_default.is)
+
+pub overflow_add-result : goal.overflow_add-result
+overflow_add-result c = omega (arith, within64 _ _ c.u64_at.ensures _ c.in-Value.is)
+
+pub returns : goal.returns
+unfolding payload
+returns c = rw (read64 _ _ c.u64_at.ensures _ c.in-Value.is)

@@ -1,0 +1,7 @@
+-- The buffer is as the pass left it, and its answer is reported.
+use Rattle.yokberd.proofs.Laws.{pass-left}
+use borrow.Author.Rules.{rules}
+use Rattle.yokberd.proofs.yokberd_fill_places.Goals as goal
+
+pub returns : goal.returns
+returns c = pass-left _ _ _ c.fill_places-a.ensures c.report_places.ensures

@@ -1,0 +1,11 @@
+-- The buffer is as the call left it, and its answer is reported.
+use Rattle.yokberd.proofs.Laws.{text-left}
+use borrow.Author.Rules.{rules}
+use Rattle.yokberd.proofs.yokberd_format_id.Reads as reads
+use Rattle.yokberd.proofs.yokberd_format_id.Lts as lts
+use Rattle.type_formatter.proofs.format_id.Reads as format-id-reads
+use Rattle.yokberd.proofs.report_text.Reads as report-text-reads
+use Rattle.yokberd.proofs.yokberd_format_id.Goals as goal
+
+pub returns : goal.returns
+returns c = text-left _ _ _ _ c.format_id-a.ensures c.report_text.ensures
