@@ -9,4 +9,4 @@ pub copy-requires : goal.copy-requires
 copy-requires c = simp (length-take, length-drop) (omega arith)
 
 pub returns : goal.returns
-returns c = put-part c.args.out.now c.args.file.now c.copy.new.0 c.args.at c.args.start c.args.n c.copy.ensures
+returns c = put-part c.args.out.now c.args.file.now c.copy.new.to c.args.at c.args.start c.args.n c.copy.ensures

@@ -1,3 +1,5 @@
+use Rattle.std.proofs.Common.{ap}
+use mathlib.Core.Bool.{not}
 use Prim.Native.Nat.{◌+◌, ◌≤◌, ◌-◌}
 use mathlib.Core.Path.{◌≡◌, refl, sym, ◌∙◌}
 use lib.ListN.{length, drop}
@@ -24,7 +26,7 @@ pub loop-at-smaller : goal.loop-at-smaller
 loop-at-smaller c = omega (arith, c.left-stop.ensures)
 
 pub loop-at-preserved : goal.loop-at-preserved
-loop-at-preserved c = (omega arith, c.loop-at.invariant.1 ∙ run-eight 8 _ _ (omega (arith, c.left-stop.ensures)) (sym c.ascii_in_eight.ensures ∙ not-false _ c.if-not-ascii_in_eight.false))
+loop-at-preserved c = (omega arith, c.loop-at.invariant.1 ∙ run-eight 8 _ _ (omega (arith, c.left-stop.ensures)) (sym c.ascii_in_eight.ensures ∙ not-false _ (ap not c.if-not-ascii_in_eight.false)))
 
 pub returns : goal.returns
 returns c = c.loop-at.invariant

@@ -18,7 +18,7 @@ slice_bounds-decode_id-end c = omega (arith, look-within _ _ _ _ c.look_up_in.en
 
 -- TODO well-formed
 pub decode_id-requires : goal.decode_id-requires
-decode_id-requires c = omega (arith, part_end c.args.s.now c.in-Record.start c.in-Record.end (look-within _ _ _ _ c.look_up_in.ensures _ _ _ c.in-Record.is), look-within _ _ _ _ c.look_up_in.ensures _ _ _ c.in-Record.is, c.well-formed.0)
+decode_id-requires c = omega (arith, part_end c.args.s.now c.in-Record.start c.in-Record.end (look-within _ _ _ _ c.look_up_in.ensures _ _ _ c.in-Record.is), look-within _ _ _ _ c.look_up_in.ensures _ _ _ c.in-Record.is, c.well_formed.0)
 
 pub returns-in-Record : goal.returns-in-Record
 unfolding id_from part

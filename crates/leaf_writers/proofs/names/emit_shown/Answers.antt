@@ -32,7 +32,7 @@ part_at-requires c = omega (arith, run-within c.args.name.now c.loop-at.at _ c.r
 
 -- TODO well-formed
 pub overflow_add-at : goal.overflow_add-at
-overflow_add-at c = omega (arith, c.well-formed.1.1.0.0, part-behind c.args.name.now c.loop-at.at _ _ c.run_end-end.ensures c.loop-at.invariant.0 c.if-end-len.false c.part_at.ensures)
+overflow_add-at c = omega (arith, c.well_formed.1.1.0.0, part-behind c.args.name.now c.loop-at.at _ _ c.run_end-end.ensures c.loop-at.invariant.0 c.if-end-len.false c.part_at.ensures)
 
 pub loop-at-smaller : goal.loop-at-smaller
 loop-at-smaller c = omega (arith, c.run_end-end.ensures, part-behind c.args.name.now c.loop-at.at _ _ c.run_end-end.ensures c.loop-at.invariant.0 c.if-end-len.false c.part_at.ensures)

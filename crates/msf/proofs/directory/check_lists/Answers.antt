@@ -1,3 +1,5 @@
+use Rattle.std.proofs.Common.{ap}
+use mathlib.Core.Bool.{not}
 use Prim.Native.Nat.{◌≤◌, ◌-◌, ◌+◌}
 use mathlib.Core.Path.{◌≡◌, sym, ◌∙◌}
 use Rattle.msf.specs.Directory.{place, all_inside}
@@ -15,10 +17,10 @@ pub place-at-requires : goal.place-at-requires
 place-at-requires c = (c.requires.0, omega (arith, c.requires.1))
 
 pub returns-then-not-is_inside : goal.returns-then-not-is_inside
-returns-then-not-is_inside c = rw c.place-at.ensures.0 (sym (c.loop-j.invariant.1 ∙ outside-here c.args.file.now c.args.s (place c.args.file.now c.args.s) StreamBlock (c.args.first + c.args.count) c.loop-j.j c.loop-j-test.true (rw (c.word.ensures, c.place-at.ensures.0) at (failed c.is_inside.ensures c.if-not-is_inside.true))))
+returns-then-not-is_inside c = rw c.place-at.ensures.0 (sym (c.loop-j.invariant.1 ∙ outside-here c.args.file.now c.args.s (place c.args.file.now c.args.s) StreamBlock (c.args.first + c.args.count) c.loop-j.j c.loop-j-test.true (rw (c.word.ensures, c.place-at.ensures.0) at (failed c.is_inside.ensures (ap not c.if-not-is_inside.true)))))
 
 pub loop-j-preserved : goal.loop-j-preserved
-loop-j-preserved c = (omega arith, c.loop-j.invariant.1 ∙ inside-here c.args.file.now c.args.s (place c.args.file.now c.args.s) StreamBlock (c.args.first + c.args.count) c.loop-j.j c.loop-j-test.true (rw (c.word.ensures, c.place-at.ensures.0) at (passed c.is_inside.ensures c.if-not-is_inside.false)))
+loop-j-preserved c = (omega arith, c.loop-j.invariant.1 ∙ inside-here c.args.file.now c.args.s (place c.args.file.now c.args.s) StreamBlock (c.args.first + c.args.count) c.loop-j.j c.loop-j-test.true (rw (c.word.ensures, c.place-at.ensures.0) at (passed c.is_inside.ensures (ap not c.if-not-is_inside.false))))
 
 pub returns : goal.returns
 returns c = sym (c.loop-j.invariant.1 ∙ none_left c.args.file.now c.args.s (place c.args.file.now c.args.s) StreamBlock (c.args.first + c.args.count) c.loop-j.j c.loop-j-test.false)

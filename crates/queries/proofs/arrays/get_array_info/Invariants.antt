@@ -10,7 +10,7 @@ use Rattle.queries.proofs.ArraysLaws.{info, from_first, from-base, from-unread, 
 use Rattle.queries.proofs.arrays.get_array_info.Given as goal
 
 abbrev pub invariant-loop-t : goal.invariant-loop-t
-invariant-loop-t l = (l.left ≤ 32) × (levels_from l.types (near l.bounds l.places) l.left (record { l.items = l.items; l.left = l.left }) l.base.0 ≡ array_info l.types (near l.bounds l.places) l.initial.base.0 l.size)
+invariant-loop-t l = (l.left ≤ 32) × (levels_from l.types (near l.bounds l.places) l.left (record { items = l.items; left = l.left }) l.base.0 ≡ array_info l.types (near l.bounds l.places) l.initial.base.0 l.size)
 
 abbrev pub decreases-loop-t : goal.decreases-loop-t
 decreases-loop-t l = l.left

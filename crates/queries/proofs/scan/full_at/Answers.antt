@@ -26,7 +26,7 @@ slice_bounds-full_of-end c = omega (arith, record-within _ _ c.record_at.ensures
 
 -- TODO well-formed
 pub full_of-requires : goal.full_of-requires
-full_of-requires c = let h = record-within _ _ c.record_at.ensures _ _ _ c.in-Record.is in let i = h.0 in omega (arith, part_end c.args.types.now c.in-Record.start c.in-Record.end (i, omega (arith, h.1, ap (λ (l : List ℕ). length l) c.records_of-records.ensures, length-take c.args.stream.stop c.args.types.now)), h.1, ap (λ (l : List ℕ). length l) c.records_of-records.ensures, length-take c.args.stream.stop c.args.types.now, c.well-formed)
+full_of-requires c = let h = record-within _ _ c.record_at.ensures _ _ _ c.in-Record.is in let i = h.0 in omega (arith, part_end c.args.types.now c.in-Record.start c.in-Record.end (i, omega (arith, h.1, ap (λ (l : List ℕ). length l) c.records_of-records.ensures, length-take c.args.stream.stop c.args.types.now)), h.1, ap (λ (l : List ℕ). length l) c.records_of-records.ensures, length-take c.args.stream.stop c.args.types.now, c.well_formed)
 
 pub returns-in-Record : goal.returns-in-Record
 unfolding type_in part

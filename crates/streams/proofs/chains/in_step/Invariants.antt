@@ -7,7 +7,7 @@ use borrow.Author.Rules.{rules}
 use Rattle.streams.proofs.chains.in_step.Given as goal
 
 abbrev pub invariant-loop-n : goal.invariant-loop-n
-invariant-loop-n l = Stretched l.s l.a l.b l.c l.d l.most (record { l.a = l.p; l.b = l.q; l.c = l.u; l.d = l.v; l.n = l.n }) × (l.p < l.x) × (l.q < l.y) × (l.u < l.z) × (l.v < l.w)
+invariant-loop-n l = Stretched l.s l.a l.b l.c l.d l.most (record { a = l.p; b = l.q; c = l.u; d = l.v; n = l.n }) × (l.p < l.x) × (l.q < l.y) × (l.u < l.z) × (l.v < l.w)
 
 abbrev pub decreases-loop-n : goal.decreases-loop-n
 decreases-loop-n l = l.most - l.n

@@ -19,7 +19,7 @@ returns-in_default c = ap (moved_place _) (sym c.in_default.is) ∙ place-moved 
 
 -- TODO well-formed
 pub overflow_add-result : goal.overflow_add-result
-overflow_add-result c = omega (arith, c.well-formed.0.0, place-fits c.args.s.now c.args.from c.args.count c.if-s-from.false c.behind_records-2.ensures _ c.in-At.is)
+overflow_add-result c = omega (arith, c.well_formed.0.0, place-fits c.args.s.now c.args.from c.args.count c.if-s-from.false c.behind_records-2.ensures _ c.in-At.is)
 
 pub returns : goal.returns
 returns c = ap (moved_place _) (sym c.in-At.is) ∙ place-moved _ _ _ c.behind_records-2.ensures

@@ -9,7 +9,7 @@ use borrow.Author.Rules.{rules}
 use Rattle.streams.proofs.stream.record_behind.Given as goal
 
 abbrev pub invariant-loop-left : goal.invariant-loop-left
-invariant-loop-left l = passed l.left l.s l.at (λ l.at. record_at l.s l.at Record Missing) Missing ≡ passed l.count l.s 0 (λ l.at. record_at l.s l.at Record Missing) Missing
+invariant-loop-left l = passed l.left l.s l.at (λ at. record_at l.s at Record Missing) Missing ≡ passed l.count l.s 0 (λ at. record_at l.s at Record Missing) Missing
 
 abbrev pub decreases-loop-left : goal.decreases-loop-left
 decreases-loop-left l = l.left
