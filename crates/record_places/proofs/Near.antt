@@ -5,8 +5,7 @@ use native.Mathlib.Nat.{add-zero}
 use native.Mathlib.Omega.{arith}
 use mathlib.Core.Path.{◌≡◌, refl, sym, ◌∙◌, ap}
 use mathlib.Core.List.{List}
-use lib.ListN.{length, take, drop, get_or}
-use lib.Dec.{leb, ltb}
+use lib.ListN.{length, take}
 use borrow.Author.Tests.{lt-leb, le-ltb}
 use Rattle.streams.specs.Stream.{passed, record_at, walk_from, look_from, look_up, checked}
 use Rattle.streams.specs.declared.refusal.StreamKind.TheVariants.{Types}
@@ -17,7 +16,7 @@ use Rattle.streams.proofs.Handed.{passed-moved, record-moved}
 use Rattle.record_places.specs.declared.PlacesCheck.TheVariants.{Right}
 use Rattle.record_places.specs.RecordPlaces.{places_of, places_by, lent_places, found_from, place_before, passed_between}
 use Rattle.record_places.proofs.Laws.{compared-front}
-use Rattle.record_places.proofs.Pass.{GoodTypes, good-types, lent-entry}
+use Rattle.record_places.proofs.Pass.{good-types, lent-entry}
 
 pub few-passed : (n : ℕ) → passed_between n ≤ 63
 few-passed n = omega arith

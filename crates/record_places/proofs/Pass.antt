@@ -7,16 +7,15 @@ use mathlib.Core.Bool.{Bool, true, false}
 use mathlib.Core.List.{List, ◌++◌}
 use lib.ListN.{length, take, drop, get_or, replicate, length-append, length-drop, get_or-append}
 use lib.Seq.{length-take-le, get_or-append-add, get_or-drop, ext_get_or}
-use lib.Dec.{leb, ltb, eqb}
-use borrow.Author.Tests.{le-leb, lt-leb, ltb-true, ltb-false, eq-eqb, ne_eqb}
+use lib.Dec.{ltb, eqb}
+use borrow.Author.Tests.{le-leb, lt-leb, ltb-true, ltb-false}
 use Rattle.wire.specs.Field.{pick}
 use Rattle.streams.specs.Stream.{header, passed, tiled, no_ids, headless, checked}
-use Rattle.streams.specs.Places.{RightRun, RightPlaces, RightFor, strided, Noted}
+use Rattle.streams.specs.Places.{RightFor, strided, Noted}
 use Rattle.streams.specs.declared.refusal.StreamKind.TheVariants.{Types}
 use Rattle.streams.specs.declared.refusal.Refusal.{Refusal}
 use Rattle.streams.specs.declared.refusal.Refusal.TheVariants.{Header, Tiling, WrongPlace}
 use Rattle.streams.specs.declared.stream.Stream.{Stream}
-use Rattle.streams.specs.declared.stream.StreamCheck.{StreamCheck}
 use Rattle.streams.specs.declared.stream.StreamCheck.TheVariants.{Good, Refused}
 use Rattle.streams.specs.declared.stream.Head.{Head}
 use Rattle.streams.specs.declared.stream.Head.TheVariants as head
@@ -24,14 +23,13 @@ use Rattle.streams.specs.declared.stream.Place.{Place}
 use Rattle.streams.specs.declared.stream.Place.TheVariants.{At, Beyond}
 use Rattle.streams.proofs.Walk.{header-good, header-broken, header-end, passed-at, passed-beyond, passed_on}
 use Rattle.streams.proofs.Marks.{strided-right}
-use Rattle.record_places.specs.declared.PlacesCheck.{PlacesCheck}
-use Rattle.record_places.specs.declared.PlacesCheck.TheVariants.{Right, Wrong}
+use Rattle.record_places.specs.declared.PlacesCheck.TheVariants.{Right}
 use Rattle.record_places.specs.declared.PlacesAnswer.{PlacesAnswer}
 use Rattle.record_places.specs.declared.PlacesAnswer.TheVariants as answer
 use Rattle.record_places.specs.declared.Comparison.{Comparison}
-use Rattle.record_places.specs.RecordPlaces.{record_place, places_from, entries_for, places_of, compared, places_by, lent_places, Pass, leaves, refused_pass, filled_by, pass_by, fill_pass}
+use Rattle.record_places.specs.RecordPlaces.{record_place, places_from, entries_for, places_of, compared, places_by, lent_places, Pass, leaves, filled_by, pass_by, fill_pass}
 use Rattle.record_places.specs.Comparing.{ComparedFor, settled_pass}
-use Rattle.record_places.proofs.Laws.{place_at, length-places, get-places, entries-more, entries_over, entries-back, compared-right}
+use Rattle.record_places.proofs.Laws.{place_at, length-places, get-places, entries-more, entries-back, compared-right}
 
 -- A refused pass leaves zeros, and refused types say nothing of lent places.
 module _ (s : List ℕ) (f : Refusal) (e : checked Types s ≡ Refused f) where

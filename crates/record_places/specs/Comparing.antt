@@ -1,5 +1,5 @@
 -- How lent places are held against a stream: where such a walk is, and what it comes to.
-use Rattle.std.specs.Prelude.{ℕ, ◌+◌, ◌-◌, ◌*◌, ◌≤◌, ◌<◌, ◌≡◌, Bool, true, false, List, length, drop, get_or, ltb, eqb}
+use Rattle.std.specs.Prelude.{ℕ, ◌+◌, ◌-◌, ◌*◌, ◌≤◌, ◌<◌, ◌≡◌, Bool, false, List, length, drop, get_or, ltb, eqb}
 use Rattle.wire.specs.Field.{pick}
 use Rattle.streams.specs.Stream.{passed}
 use Rattle.streams.specs.declared.stream.Place.TheVariants.{At, Beyond}

@@ -1,5 +1,5 @@
 -- Record places kept beside the stream (document 02, Note 3): what they are, the pass that fills them, and the check of lent ones.
-use Rattle.std.specs.Prelude.{ℕ, zero, suc, ◌+◌, ◌-◌, ◌*◌, ◌/◌, ◌≤◌, ◌≡◌, List, [], ◌∷◌, ◌++◌, length, take, drop, get_or, replicate, leb, eqb}
+use Rattle.std.specs.Prelude.{ℕ, zero, suc, ◌+◌, ◌-◌, ◌*◌, ◌/◌, List, [], ◌∷◌, ◌++◌, length, take, drop, get_or, replicate, leb, eqb}
 use Rattle.wire.specs.Field.{pick}
 use Rattle.streams.specs.Stream.{passed, record_at, checked}
 use Rattle.streams.specs.declared.refusal.StreamKind.TheVariants.{Types}

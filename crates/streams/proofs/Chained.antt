@@ -1,6 +1,6 @@
 -- Laws of chains: how a chain starts, notes and goes on, what it leaves alone, and that chains that meet make one walk. Assumes nothing.
-use Prim.Native.Nat.{ℕ, zero, suc, ◌+◌, ◌-◌, ◌*◌, ◌/◌, ◌≤◌, ◌<◌, min}
-use native.Mathlib.Nat.{zero-add, add-suc, zero-mul, suc-mul, mul-le-mul_right, min-le_right}
+use Prim.Native.Nat.{ℕ, ◌+◌, ◌-◌, ◌*◌, ◌/◌, ◌≤◌, ◌<◌}
+use native.Mathlib.Nat.{zero-mul, suc-mul, mul-le-mul_right, min-le_right}
 use native.Mathlib.Numerals.{add-one}
 use native.Mathlib.Omega.{arith}
 use mathlib.Core.Path.{◌≡◌, refl, sym, ◌∙◌, ap}
@@ -22,11 +22,9 @@ use Rattle.streams.specs.declared.chains.Due.{Due}
 use Rattle.streams.specs.declared.chains.Four.{Four}
 use Rattle.streams.specs.declared.chains.FourPlaces.{FourPlaces}
 use Rattle.streams.specs.declared.chains.FourPlaces.TheVariants as four
-use Rattle.streams.specs.declared.chains.Chain.{Chain}
 use Rattle.streams.specs.declared.chains.Chain.TheVariants as chain
-use Rattle.streams.specs.declared.chains.Chains.{Chains}
 use Rattle.streams.specs.declared.chains.Chains.TheVariants as chains
-use Rattle.streams.proofs.Walk.{behind-at, passed-at, passed-last, passed-from, passed-bound, passed-grows}
+use Rattle.streams.proofs.Walk.{passed-at, passed-last, passed-from, passed-bound, passed-grows}
 use Rattle.streams.proofs.Marks.{entry-before}
 
 -- A walk and one record more.

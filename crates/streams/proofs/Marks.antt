@@ -12,7 +12,7 @@ use lib.Dec.{leb, ltb}
 use borrow.Author.Tests.{ltb-true, ltb-false, leb-false, le-ltb, lt-ltb, lt-leb}
 use Rattle.wire.specs.Field.{pick, field}
 use Rattle.streams.specs.Stream.{behind, passed, record_at, first_record, walk_from, look_from}
-use Rattle.streams.specs.Places.{first_mark, entry_in, mark_in, mark_by, nearest, serves_in, serves, serves_until, RightMarks, RightFor, RightPlaces, strided, spaced, Parted}
+use Rattle.streams.specs.Places.{first_mark, entry_in, mark_in, mark_by, nearest, serves_in, serves, serves_until, RightMarks, RightFor, RightPlaces, strided, Parted}
 use Rattle.streams.specs.declared.stream.Stream.{Stream}
 use Rattle.streams.specs.declared.stream.Cursor.{Cursor}
 use Rattle.streams.specs.declared.stream.Place.TheVariants.{At, Beyond}

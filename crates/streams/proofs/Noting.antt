@@ -1,5 +1,5 @@
 -- Laws of the walk that notes places: how it starts, goes on and ends. Assumes nothing.
-use Prim.Native.Nat.{ℕ, zero, suc, ◌+◌, ◌-◌, ◌*◌, ◌≤◌, ◌<◌, min}
+use Prim.Native.Nat.{ℕ, ◌+◌, ◌-◌, ◌*◌, ◌≤◌, ◌<◌, min}
 use native.Mathlib.Nat.{zero-add, zero-mul, suc-mul, mul-le-mul_right}
 use native.Mathlib.Numerals.{add-one}
 use native.Mathlib.Omega.{arith}
@@ -11,10 +11,10 @@ use lib.Seq.{get_or-set_same, get_or-set_other}
 use lib.Dec.{ltb}
 use borrow.Author.Tests.{ltb-true, ltb-false}
 use Rattle.streams.specs.Stream.{passed}
-use Rattle.streams.specs.Places.{RightRun, Noted}
+use Rattle.streams.specs.Places.{Noted}
 use Rattle.streams.specs.declared.stream.Place.{Place}
 use Rattle.streams.specs.declared.stream.Place.TheVariants.{At, Beyond}
-use Rattle.streams.proofs.Walk.{passed-at, passed-beyond, passed_none, passed-bound, passed_on, passed-from}
+use Rattle.streams.proofs.Walk.{passed-beyond, passed_none, passed-bound, passed_on, passed-from}
 
 -- The first k entries are noted, and the others are as they were.
 pub record Notes (s : List ℕ) (from count stride : ℕ) (old : List ℕ) (k : ℕ) (new : List ℕ) : Type 0 where

@@ -8,10 +8,8 @@ use mathlib.Core.Bool.{Bool, true, false}
 use mathlib.Core.List.{List, [], ◌∷◌, ◌++◌, append_assoc}
 use lib.ListN.{length, take, drop, get_or, set, drop_of_length-le, length-take, length-drop}
 use lib.Seq.{take_all, take-suc, drop-cons, set_at}
-use lib.Dec.{leb, eqb}
 use Rattle.wire.specs.Field.{pick}
 use Rattle.streams.specs.Stream.{header, tiled, none, no_ids, headless, checked}
-use Rattle.streams.specs.Places.{RightFor, NotedFor}
 use Rattle.streams.specs.Bounds.{start_of, stream_in, spacing_in, check_in, places_in, state_of, stream_of, bounds_of}
 use Rattle.streams.specs.declared.refusal.StreamKind.{StreamKind}
 use Rattle.streams.specs.declared.refusal.StreamKind.TheVariants.{Types, Ids}
@@ -21,7 +19,6 @@ use Rattle.streams.specs.declared.stream.Head.TheVariants as head
 use Rattle.streams.specs.declared.stream.Stream.{Stream}
 use Rattle.streams.specs.declared.stream.StreamCheck.{StreamCheck}
 use Rattle.streams.specs.declared.stream.StreamCheck.TheVariants.{Good, Refused}
-use Rattle.streams.specs.declared.places.Spacing.{Spacing}
 use Rattle.streams.specs.declared.places.NotedCheck.{NotedCheck}
 use Rattle.streams.proofs.Walk.{header-good, header-broken, header-within, header-small}
 

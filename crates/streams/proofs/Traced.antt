@@ -1,8 +1,8 @@
 -- Laws of the chains of a short stream: how one starts, notes and goes on, and what it leaves alone. Assumes nothing.
-use Prim.Native.Nat.{ℕ, zero, suc, ◌+◌, ◌*◌, ◌≤◌, ◌<◌}
+use Prim.Native.Nat.{ℕ, ◌+◌, ◌*◌, ◌≤◌, ◌<◌}
 use native.Mathlib.Nat.{mul-one, zero-add}
 use native.Mathlib.Omega.{arith}
-use mathlib.Core.Path.{◌≡◌, refl, sym, ◌∙◌, ap}
+use mathlib.Core.Path.{◌≡◌, refl, sym, ◌∙◌}
 use mathlib.Core.Bool.{Bool, true, false}
 use mathlib.Core.List.{List}
 use lib.ListN.{length, get_or, set, length-set}
@@ -12,9 +12,7 @@ use borrow.Author.Tests.{ltb-true, ltb-false}
 use Rattle.streams.specs.Stream.{behind, passed}
 use Rattle.streams.specs.Chains.{Within, Finished}
 use Rattle.streams.specs.Short.{Traced, Quad, Before, NotedIn, Abreast}
-use Rattle.streams.specs.declared.stream.Place.{Place}
 use Rattle.streams.specs.declared.stream.Place.TheVariants.{At, Beyond}
-use Rattle.streams.specs.declared.chains.Chain.{Chain}
 use Rattle.streams.specs.declared.chains.Chain.TheVariants as chain
 use Rattle.streams.proofs.Walk.{passed-grows}
 use Rattle.streams.proofs.Chained.{passed-next, within_none, within-set}

@@ -6,8 +6,7 @@ use Rattle.streams.specs.Stream.{passed, checked}
 use Rattle.streams.specs.declared.refusal.StreamKind.{StreamKind}
 use Rattle.streams.specs.declared.stream.Stream.{Stream}
 use Rattle.streams.specs.declared.stream.Cursor.{Cursor}
-use Rattle.streams.specs.declared.stream.StreamCheck.{StreamCheck}
-use Rattle.streams.specs.declared.stream.StreamCheck.TheVariants.{Good, Refused}
+use Rattle.streams.specs.declared.stream.StreamCheck.TheVariants.{Good}
 use Rattle.streams.specs.declared.stream.Place.{Place}
 use Rattle.streams.specs.declared.stream.Place.TheVariants.{At, Beyond}
 use Rattle.streams.specs.declared.places.Spacing.{Spacing}

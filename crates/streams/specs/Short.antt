@@ -1,5 +1,5 @@
 -- Chains of a short stream: each notes the places of its first 64 records.
-use Rattle.std.specs.Prelude.{ℕ, ◌+◌, ◌≤◌, ◌<◌, ◌≡◌, List, length, get_or}
+use Rattle.std.specs.Prelude.{ℕ, ◌+◌, ◌<◌, ◌≡◌, List, length, get_or}
 use Rattle.streams.specs.Stream.{behind, passed}
 use Rattle.streams.specs.Chains.{Within}
 use Rattle.streams.specs.declared.stream.Place.{Place}

@@ -1,5 +1,5 @@
 -- Streams (document 01, "Streams and records"): the header, the records that tile the bytes behind it, and the record of an index.
-use Rattle.std.specs.Prelude.{ℕ, zero, suc, ◌+◌, ◌-◌, Bool, true, false, List, length, take, drop, leb, ltb, eqb}
+use Rattle.std.specs.Prelude.{ℕ, zero, suc, ◌+◌, ◌-◌, Bool, false, List, length, take, drop, leb, ltb, eqb}
 use Rattle.wire.specs.Field.{pick, field}
 use Rattle.streams.specs.declared.refusal.StreamKind.{StreamKind}
 use Rattle.streams.specs.declared.refusal.StreamKind.TheVariants as stream

@@ -1,6 +1,6 @@
 -- Laws of fields, over the width. Assumes nothing.
 use Prim.Native.Nat.{ℕ, zero, suc, ◌+◌, ◌*◌, ◌-◌, ◌^◌, ◌≤◌, ◌<◌}
-use native.Mathlib.Nat.{le_refl, add-zero, zero-add, add-suc, suc-add, add_assoc, mul-add, mul_assoc, one-mul, pow-succ', pow-zero}
+use native.Mathlib.Nat.{le_refl, add-zero, zero-add, suc-add, mul_assoc, pow-succ', pow-zero}
 use native.Mathlib.Omega.{arith}
 use mathlib.Core.Path.{◌≡◌, refl, ap, sym, ◌∙◌}
 use mathlib.Core.Bool.{Bool, true, false, ◌||◌}

@@ -1,7 +1,6 @@
 -- Zero-ended names, as places.
 use Rattle.std.specs.Prelude.{ℕ, zero, suc, ◌+◌, ◌-◌, Bool, false, ◌||◌, List, length, get_or, eqb, ltb}
 use Rattle.wire.specs.Field.{pick}
-use Rattle.wire.specs.declared.name.Name.{Name}
 use Rattle.wire.specs.declared.name.NameRead.{NameRead}
 use Rattle.wire.specs.declared.name.NameRead.TheVariants.{Ended, Unended}
 

@@ -2,7 +2,6 @@
 use mathlib.Core.Path.{sym, ◌∙◌}
 use Rattle.msf.specs.Contents.{checked}
 use Rattle.msf.proofs.Laws.{sound}
-use borrow.Author.Rules.{rules}
 use Rattle.msf.proofs.check.Goals as goal
 
 pub check_directory-requires : goal.check_directory-requires

@@ -1,10 +1,8 @@
 use Prim.Native.Nat.{◌≤◌, ◌-◌, ◌+◌}
 use native.Mathlib.Nat.{mul-le-mul, sub-zero}
 use mathlib.Core.Path.{◌≡◌, ◌∙◌}
-use lib.ListN.{length}
-use Rattle.msf.specs.Contents.{bytes_from}
 use Rattle.msf.proofs.DirectoryLaws.{block_within}
-use Rattle.msf.proofs.ContentsLaws.{over, copied, copied_all}
+use Rattle.msf.proofs.ContentsLaws.{copied, copied_all}
 use native.Mathlib.Omega.{arith}
 use borrow.Author.Rules.{rules}
 use Rattle.msf.proofs.copy_blocks.Goals as goal

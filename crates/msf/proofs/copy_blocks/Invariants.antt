@@ -1,13 +1,9 @@
 -- The invariant: the bytes of the blocks that are left, laid over the buffer, make it what all of them make of the first. The measure is what is left of the blocks.
 use Prim.Native.Nat.{◌≤◌, ◌-◌, ◌+◌}
-use native.Mathlib.Nat.{mul-le-mul, sub-zero}
-use mathlib.Core.Path.{◌≡◌, ◌∙◌}
+use mathlib.Core.Path.{◌≡◌}
 use lib.ListN.{length}
 use Rattle.msf.specs.Contents.{bytes_from}
-use Rattle.msf.proofs.DirectoryLaws.{block_within}
-use Rattle.msf.proofs.ContentsLaws.{over, copied, copied_all}
-use native.Mathlib.Omega.{arith}
-use borrow.Author.Rules.{rules}
+use Rattle.msf.proofs.ContentsLaws.{over}
 use Rattle.msf.proofs.copy_blocks.Given as goal
 
 abbrev pub invariant-loop-j : goal.invariant-loop-j

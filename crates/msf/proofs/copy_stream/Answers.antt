@@ -2,7 +2,6 @@
 use lib.ListN.{length}
 use Rattle.msf.proofs.ContentsLaws.{ready, stream-copied}
 use native.Mathlib.Omega.{arith}
-use borrow.Author.Rules.{rules}
 use Rattle.msf.proofs.copy_stream.Goals as goal
 
 pub number_at-requires : goal.number_at-requires

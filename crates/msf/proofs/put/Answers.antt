@@ -2,7 +2,6 @@
 use lib.ListN.{length-take, length-drop}
 use Rattle.msf.proofs.Laws.{put-part}
 use native.Mathlib.Omega.{arith}
-use borrow.Author.Rules.{rules}
 use Rattle.msf.proofs.put.Goals as goal
 
 pub copy-requires : goal.copy-requires

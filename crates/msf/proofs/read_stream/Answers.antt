@@ -1,7 +1,6 @@
 -- A refusal, or the bytes of the stream.
 use mathlib.Core.Path.{sym, ◌∙◌}
 use Rattle.msf.proofs.ContentsLaws.{refused-by, read_by}
-use borrow.Author.Rules.{rules}
 use Rattle.msf.proofs.read_stream.Goals as goal
 
 pub copy_stream-requires : goal.copy_stream-requires

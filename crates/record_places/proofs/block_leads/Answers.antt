@@ -1,9 +1,10 @@
-use Prim.Native.Nat.{ℕ, ◌≤◌, ◌-◌}
+use Rattle.std.proofs.Common.{ap}
+use mathlib.Core.Bool.{not}
+use Prim.Native.Nat.{ℕ}
 use native.Mathlib.Omega.{arith}
 use mathlib.Core.Path.{◌≡◌}
 use borrow.Author.Tests.{not-false}
-use Rattle.record_places.proofs.Laws.{Led, led-none, led-more, led-all}
-use borrow.Author.Rules.{rules}
+use Rattle.record_places.proofs.Laws.{led-none, led-more, led-all}
 use Rattle.record_places.proofs.block_leads.Goals as goal
 
 pub loop-j-init : goal.loop-j-init
@@ -25,7 +26,7 @@ pub loop-j-smaller : goal.loop-j-smaller
 loop-j-smaller c = omega (arith, c.loop-j-test.true)
 
 pub loop-j-preserved : goal.loop-j-preserved
-loop-j-preserved c = (omega (arith, c.loop-j-test.true), led-more _ _ _ _ _ c.loop-j.invariant.1 (c.four_lead.ensures (not-false _ c.if-not-four_lead.false)))
+loop-j-preserved c = (omega (arith, c.loop-j-test.true), led-more _ _ _ _ _ c.loop-j.invariant.1 (c.four_lead.ensures (not-false _ (ap not c.if-not-four_lead.false))))
 
 pub returns : goal.returns
 returns c = λ h. led-all _ _ _ _ c.loop-j.j c.requires.1 (omega (arith, c.loop-j-test.false)) c.loop-j.invariant.0 c.loop-j.invariant.1

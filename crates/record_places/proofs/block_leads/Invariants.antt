@@ -1,10 +1,6 @@
 -- The invariant: the first j of each of the four parts lead to the next. The measure is what is left of a part.
-use Prim.Native.Nat.{ℕ, ◌≤◌, ◌-◌}
-use native.Mathlib.Omega.{arith}
-use mathlib.Core.Path.{◌≡◌}
-use borrow.Author.Tests.{not-false}
-use Rattle.record_places.proofs.Laws.{Led, led-none, led-more, led-all}
-use borrow.Author.Rules.{rules}
+use Prim.Native.Nat.{◌≤◌, ◌-◌}
+use Rattle.record_places.proofs.Laws.{Led}
 use Rattle.record_places.proofs.block_leads.Given as goal
 
 abbrev pub invariant-loop-j : goal.invariant-loop-j

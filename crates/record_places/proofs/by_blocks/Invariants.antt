@@ -1,11 +1,7 @@
 -- The invariant: so many entries are right. The measure is what is left.
-use Prim.Native.Nat.{◌≤◌, ◌+◌, ◌*◌, ◌-◌}
-use mathlib.Core.Path.{◌≡◌, sym, ◌∙◌}
-use native.Mathlib.Omega.{arith}
-use borrow.Author.Tests.{not-false}
+use Prim.Native.Nat.{◌+◌, ◌*◌}
+use mathlib.Core.Path.{◌≡◌}
 use Rattle.record_places.specs.Comparing.{Comparing}
-use Rattle.record_places.proofs.Laws.{held, comparing-block}
-use borrow.Author.Rules.{rules}
 use Rattle.record_places.proofs.by_blocks.Given as goal
 
 abbrev pub invariant-loop-left : goal.invariant-loop-left

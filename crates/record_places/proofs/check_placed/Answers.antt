@@ -1,13 +1,12 @@
 -- Each case of the stream's check, and the check of the places where that is good.
 use native.Mathlib.Omega.{arith}
-use mathlib.Core.Path.{refl, sym, ◌∙◌, ap}
+use mathlib.Core.Path.{sym}
 use mathlib.Core.Bool.{true, false}
 use lib.Seq.{length-take-le}
 use borrow.Author.Tests.{eq-eqb, ne_eqb}
 use Rattle.streams.proofs.Walk.{header-within}
 use Rattle.record_places.proofs.Laws.{comparing-first}
 use Rattle.record_places.proofs.Pass.{lent-refused, lent-good, broken-is, good-is, untiled-is, past-untiled, at-tiled}
-use borrow.Author.Rules.{rules}
 use Rattle.record_places.proofs.check_placed.Goals as goal
 
 pub returns-in_default : goal.returns-in_default

@@ -1,11 +1,5 @@
 -- The invariant: what the entries from here on come to, all come to. The measure is what is left.
-use Prim.Native.Nat.{◌≤◌}
-use mathlib.Core.Path.{◌≡◌, refl, sym, ◌∙◌}
-use native.Mathlib.Omega.{arith}
-use borrow.Author.Tests.{not-true, not-false}
 use Rattle.record_places.specs.Comparing.{Comparing}
-use Rattle.record_places.proofs.Laws.{held, comparing-next, compared-done, compared-wrong, compared-beyond}
-use borrow.Author.Rules.{rules}
 use Rattle.record_places.proofs.compare_from.Given as goal
 
 abbrev pub invariant-loop-left : goal.invariant-loop-left

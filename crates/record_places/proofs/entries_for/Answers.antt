@@ -2,7 +2,6 @@
 use native.Mathlib.Omega.{arith}
 use mathlib.Core.Path.{refl}
 use Rattle.record_places.specs.RecordPlaces.{entries_for}
-use borrow.Author.Rules.{rules}
 use Rattle.record_places.proofs.entries_for.Goals as goal
 
 pub overflow_add-result : goal.overflow_add-result

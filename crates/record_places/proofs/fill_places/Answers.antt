@@ -1,8 +1,5 @@
 -- What the pass noted, or zeros.
-use lib.ListN.{length-replicate}
-use mathlib.Core.Path.{◌∙◌, ap}
 use Rattle.record_places.proofs.Pass.{settle-filled, settle-refused}
-use borrow.Author.Rules.{rules}
 use Rattle.record_places.proofs.fill_places.Goals as goal
 
 pub returns-in-Filled : goal.returns-in-Filled

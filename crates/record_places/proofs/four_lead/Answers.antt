@@ -4,7 +4,6 @@ use native.Mathlib.Omega.{arith}
 use mathlib.Core.Path.{◌≡◌, ◌∙◌}
 use borrow.Author.Tests.{eqb-true}
 use Rattle.record_places.proofs.Laws.{four-led}
-use borrow.Author.Rules.{rules}
 use Rattle.record_places.proofs.four_lead.Goals as goal
 
 pub overflow_mul-fourth : goal.overflow_mul-fourth

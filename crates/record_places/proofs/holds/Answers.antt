@@ -2,7 +2,6 @@
 use native.Mathlib.Omega.{arith}
 use borrow.Author.Tests.{lt-ltb, le-ltb}
 use Rattle.record_places.specs.Comparing.{holds_at}
-use borrow.Author.Rules.{rules}
 use Rattle.record_places.proofs.holds.Goals as goal
 
 pub bounds-places-wide : goal.bounds-places-wide

@@ -1,13 +1,12 @@
 -- Each case of the check, and of the buffer's length.
-use mathlib.Core.Path.{refl, sym, ◌∙◌}
+use mathlib.Core.Path.{refl, sym}
 use mathlib.Core.Bool.{true, false}
 use lib.Seq.{length-take-le}
-use lib.ListN.{length, length-take}
+use lib.ListN.{length-take}
 use native.Mathlib.Omega.{arith}
 use borrow.Author.Tests.{eq-eqb, ne_eqb}
 use Rattle.streams.proofs.Walk.{header-within, header-small}
 use Rattle.record_places.proofs.Pass.{pass-refused, broken-is, good-is, untiled-is, past-untiled, at-tiled, pass-short, pass-filled}
-use borrow.Author.Rules.{rules}
 use Rattle.record_places.proofs.note_places.Goals as goal
 
 pub returns-in_default : goal.returns-in_default

@@ -1,7 +1,6 @@
 -- The two cases of a size.
 use Rattle.msf.proofs.DirectoryLaws.{blocks-none, blocks-some}
 use native.Mathlib.Omega.{arith}
-use borrow.Author.Rules.{rules}
 use Rattle.msf.proofs.directory.blocks_of.Goals as goal
 
 pub returns-then-n-eq4294967295 : goal.returns-then-n-eq4294967295

@@ -1,7 +1,6 @@
 -- One check after another.
 use mathlib.Core.Path.{sym, ◌∙◌}
 use Rattle.msf.specs.Directory.{directory_checked}
-use borrow.Author.Rules.{rules}
 use Rattle.msf.proofs.directory.check_directory.Goals as goal
 
 pub check_map-requires : goal.check_map-requires

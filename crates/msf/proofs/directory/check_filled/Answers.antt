@@ -4,7 +4,6 @@ use Rattle.msf.specs.Superblock.{word}
 use Rattle.msf.specs.Directory.{number_at, listed}
 use Rattle.msf.proofs.DirectoryLaws.{filled-good, filled-bad}
 use native.Mathlib.Omega.{arith}
-use borrow.Author.Rules.{rules}
 use Rattle.msf.proofs.directory.check_filled.Goals as goal
 
 pub place-at-requires : goal.place-at-requires

@@ -1,13 +1,12 @@
 use Rattle.std.proofs.Common.{ap}
 use mathlib.Core.Bool.{not}
-use Prim.Native.Nat.{◌≤◌, ◌-◌, ◌+◌}
+use Prim.Native.Nat.{◌-◌, ◌+◌}
 use mathlib.Core.Path.{◌≡◌, sym, ◌∙◌}
-use Rattle.msf.specs.Directory.{place, all_inside}
+use Rattle.msf.specs.Directory.{place}
 use Rattle.msf.specs.declared.damage.Damage.TheVariants.{StreamBlock}
 use Rattle.msf.proofs.Laws.{failed, passed}
 use Rattle.msf.proofs.DirectoryLaws.{outside-here, inside-here, none_left}
 use native.Mathlib.Omega.{arith}
-use borrow.Author.Rules.{rules}
 use Rattle.msf.proofs.directory.check_lists.Goals as goal
 
 pub loop-j-init : goal.loop-j-init

@@ -1,12 +1,8 @@
 -- The invariant: looking on from here finds the first number that is not inside. The measure is what is left of them.
 use Prim.Native.Nat.{◌≤◌, ◌-◌, ◌+◌}
-use mathlib.Core.Path.{◌≡◌, sym, ◌∙◌}
+use mathlib.Core.Path.{◌≡◌}
 use Rattle.msf.specs.Directory.{place, all_inside}
 use Rattle.msf.specs.declared.damage.Damage.TheVariants.{StreamBlock}
-use Rattle.msf.proofs.Laws.{failed, passed}
-use Rattle.msf.proofs.DirectoryLaws.{outside-here, inside-here, none_left}
-use native.Mathlib.Omega.{arith}
-use borrow.Author.Rules.{rules}
 use Rattle.msf.proofs.directory.check_lists.Given as goal
 
 abbrev pub invariant-loop-j : goal.invariant-loop-j

@@ -1,13 +1,11 @@
 use Rattle.std.proofs.Common.{ap}
 use mathlib.Core.Bool.{not}
-use Prim.Native.Nat.{◌≤◌, ◌-◌}
-use mathlib.Core.Path.{◌≡◌, sym, ◌∙◌}
-use Rattle.msf.specs.Directory.{map_place, all_inside, map_checked}
+use mathlib.Core.Path.{sym, ◌∙◌}
+use Rattle.msf.specs.Directory.{map_place}
 use Rattle.msf.specs.declared.damage.Damage.TheVariants.{DirectoryBlock}
 use Rattle.msf.proofs.Laws.{failed, passed}
 use Rattle.msf.proofs.DirectoryLaws.{map_whole, outside-here, inside-here, none_left}
 use native.Mathlib.Omega.{arith}
-use borrow.Author.Rules.{rules}
 use Rattle.msf.proofs.directory.check_map.Goals as goal
 
 pub blocks_for-count-requires : goal.blocks_for-count-requires

@@ -2,7 +2,6 @@
 use Rattle.msf.proofs.DirectoryLaws.{beyond, absent, too_long, takes}
 use mathlib.Core.Path.{◌∙◌}
 use native.Mathlib.Omega.{arith}
-use borrow.Author.Rules.{rules}
 use Rattle.msf.proofs.directory.check_stream.Goals as goal
 
 pub number_at-requires : goal.number_at-requires

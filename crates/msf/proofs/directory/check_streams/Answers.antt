@@ -3,7 +3,6 @@ use mathlib.Core.Path.{sym, ◌∙◌}
 use Rattle.msf.specs.Directory.{streams_checked}
 use Rattle.msf.proofs.DirectoryLaws.{filled-tells, lists-by}
 use native.Mathlib.Omega.{arith}
-use borrow.Author.Rules.{rules}
 use Rattle.msf.proofs.directory.check_streams.Goals as goal
 
 pub number_at-requires : goal.number_at-requires

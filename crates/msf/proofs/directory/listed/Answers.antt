@@ -1,9 +1,7 @@
-use Prim.Native.Nat.{◌≤◌, ◌-◌, ◌*◌}
 use mathlib.Core.Path.{◌≡◌, refl, ap, ◌∙◌}
 use Rattle.msf.specs.Directory.{listed}
 use Rattle.msf.proofs.DirectoryLaws.{listed_more}
 use native.Mathlib.Omega.{arith}
-use borrow.Author.Rules.{rules}
 use Rattle.msf.proofs.directory.listed.Goals as goal
 
 pub loop-i-init : goal.loop-i-init

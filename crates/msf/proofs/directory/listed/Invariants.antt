@@ -1,10 +1,7 @@
 -- The invariant: the sum is that of the streams passed, less than 2^33 for each. The measure is what is left of them.
 use Prim.Native.Nat.{◌≤◌, ◌-◌, ◌*◌}
-use mathlib.Core.Path.{◌≡◌, refl, ap, ◌∙◌}
+use mathlib.Core.Path.{◌≡◌}
 use Rattle.msf.specs.Directory.{listed}
-use Rattle.msf.proofs.DirectoryLaws.{listed_more}
-use native.Mathlib.Omega.{arith}
-use borrow.Author.Rules.{rules}
 use Rattle.msf.proofs.directory.listed.Given as goal
 
 abbrev pub invariant-loop-i : goal.invariant-loop-i

@@ -3,7 +3,6 @@ use Prim.Native.Nat.{◌≤◌}
 use native.Mathlib.Nat.{mul-le-mul}
 use Rattle.msf.specs.Directory.{map_place}
 use native.Mathlib.Omega.{arith}
-use borrow.Author.Rules.{rules}
 use Rattle.msf.proofs.directory.map_place.Goals as goal
 
 pub overflow_mul-result : goal.overflow_mul-result

@@ -3,7 +3,6 @@ use Prim.Native.Nat.{◌≤◌, ◌/◌}
 use native.Mathlib.Nat.{mul-le-mul, div-le_self, mod-le}
 use Rattle.msf.specs.Directory.{place}
 use native.Mathlib.Omega.{arith}
-use borrow.Author.Rules.{rules}
 use Rattle.msf.proofs.directory.place.Goals as goal
 
 pub map_place-requires : goal.map_place-requires

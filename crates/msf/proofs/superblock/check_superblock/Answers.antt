@@ -1,7 +1,6 @@
 -- The length, the magic, the numbers.
 use mathlib.Core.Path.{sym, ◌∙◌}
 use Rattle.msf.proofs.Laws.{short, unlike, alike}
-use borrow.Author.Rules.{rules}
 use Rattle.msf.proofs.superblock.check_superblock.Goals as goal
 
 pub returns-then-file-lt56 : goal.returns-then-file-lt56

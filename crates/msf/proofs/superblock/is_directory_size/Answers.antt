@@ -1,7 +1,6 @@
 -- By the definition.
 use Rattle.msf.specs.Superblock.{is_directory_size}
 use native.Mathlib.Omega.{arith}
-use borrow.Author.Rules.{rules}
 use Rattle.msf.proofs.superblock.is_directory_size.Goals as goal
 
 pub overflow_mul-result : goal.overflow_mul-result

@@ -1,10 +1,9 @@
-use Prim.Native.Nat.{◌≤◌, ◌-◌}
-use mathlib.Core.Path.{◌≡◌, refl, sym, ◌∙◌}
-use lib.ListN.{length, drop, drop_of_length-le}
+use Prim.Native.Nat.{◌≤◌}
+use mathlib.Core.Path.{refl, sym, ◌∙◌}
+use lib.ListN.{length, drop_of_length-le}
 use Rattle.msf.specs.Superblock.{same_from}
 use Rattle.msf.proofs.Laws.{differs, agrees}
 use native.Mathlib.Omega.{arith}
-use borrow.Author.Rules.{rules}
 use Rattle.msf.proofs.superblock.same.Goals as goal
 
 pub loop-i-init : goal.loop-i-init

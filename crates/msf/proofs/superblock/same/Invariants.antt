@@ -1,11 +1,8 @@
 -- The invariant: looking on from here finds the first byte that differs from those asked for. The measure is what is left of them.
 use Prim.Native.Nat.{◌≤◌, ◌-◌}
-use mathlib.Core.Path.{◌≡◌, refl, sym, ◌∙◌}
-use lib.ListN.{length, drop, drop_of_length-le}
+use mathlib.Core.Path.{◌≡◌}
+use lib.ListN.{length, drop}
 use Rattle.msf.specs.Superblock.{same_from}
-use Rattle.msf.proofs.Laws.{differs, agrees}
-use native.Mathlib.Omega.{arith}
-use borrow.Author.Rules.{rules}
 use Rattle.msf.proofs.superblock.same.Given as goal
 
 abbrev pub invariant-loop-i : goal.invariant-loop-i

@@ -1,6 +1,5 @@
 -- By the definition.
 use Rattle.msf.specs.Superblock.{superblock_of}
-use borrow.Author.Rules.{rules}
 use Rattle.msf.proofs.superblock.superblock_of.Goals as goal
 
 pub returns : goal.returns

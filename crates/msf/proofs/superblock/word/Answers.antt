@@ -1,7 +1,6 @@
 -- The field's two cases.
 use Rattle.wire.proofs.Laws.{read32, unread32}
 use Rattle.msf.specs.Superblock.{word}
-use borrow.Author.Rules.{rules}
 use Rattle.msf.proofs.superblock.word.Goals as goal
 
 pub returns-in-Value : goal.returns-in-Value

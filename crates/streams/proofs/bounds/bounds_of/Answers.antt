@@ -1,6 +1,5 @@
 -- Number by number.
 use Rattle.streams.specs.Bounds.{bounds_of}
-use borrow.Author.Rules.{rules}
 use Rattle.streams.proofs.bounds.bounds_of.Goals as goal
 
 pub returns : goal.returns

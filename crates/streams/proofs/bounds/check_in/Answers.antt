@@ -1,7 +1,6 @@
 -- Each return is a case of the definition.
 use borrow.Author.Tests.{eq-eqb, ne_eqb}
 use Rattle.streams.specs.Bounds.{check_in}
-use borrow.Author.Rules.{rules}
 use Rattle.streams.proofs.bounds.check_in.Goals as goal
 
 pub returns-then-state-eq1 : goal.returns-then-state-eq1

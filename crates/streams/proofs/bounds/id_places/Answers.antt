@@ -1,7 +1,6 @@
 -- A part from a place past the end is nothing.
 use native.Mathlib.Omega.{arith}
 use Rattle.streams.proofs.Numbers.{drop-shorter, rest-whole}
-use borrow.Author.Rules.{rules}
 use Rattle.streams.proofs.bounds.id_places.Goals as goal
 
 pub slice_bounds-result-count : goal.slice_bounds-result-count

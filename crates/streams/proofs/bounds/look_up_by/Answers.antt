@@ -7,7 +7,6 @@ use Rattle.streams.specs.declared.stream.Found.TheVariants.{Record, Missing, Cro
 use Rattle.streams.proofs.Walk.{take-shorter}
 use Rattle.streams.proofs.Marks.{mark-low}
 use Rattle.streams.proofs.Records.{look-cross, look-before, look-past, look-near}
-use borrow.Author.Rules.{rules}
 use Rattle.streams.proofs.bounds.look_up_by.Goals as goal
 
 pub returns-then-bounds-lt19 : goal.returns-then-bounds-lt19

@@ -1,6 +1,5 @@
 -- By the stream: the places of each.
 use Rattle.streams.specs.Bounds.{places_in}
-use borrow.Author.Rules.{rules}
 use Rattle.streams.proofs.bounds.look_up_in.Goals as goal
 
 pub returns-in-Types : goal.returns-in-Types

@@ -1,7 +1,6 @@
 -- The entry, or past the end what stands for it.
 use mathlib.Core.Path.{sym}
 use Rattle.streams.proofs.Numbers.{get_d_past}
-use borrow.Author.Rules.{rules}
 use Rattle.streams.proofs.bounds.number_at.Goals as goal
 
 pub returns : goal.returns

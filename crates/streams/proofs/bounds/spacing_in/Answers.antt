@@ -1,7 +1,6 @@
 -- Each number is the list's.
 use native.Mathlib.Omega.{arith}
 use Rattle.streams.specs.Bounds.{spacing_in}
-use borrow.Author.Rules.{rules}
 use Rattle.streams.proofs.bounds.spacing_in.Goals as goal
 
 pub overflow_add-k : goal.overflow_add-k

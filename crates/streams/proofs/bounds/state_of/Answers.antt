@@ -1,6 +1,5 @@
 -- The definition's cases.
 use Rattle.streams.specs.Bounds.{state_of}
-use borrow.Author.Rules.{rules}
 use Rattle.streams.proofs.bounds.state_of.Goals as goal
 
 pub returns-in-Good : goal.returns-in-Good

@@ -1,11 +1,8 @@
 -- The invariant: the first i numbers are stored. The measure is what is left of the 19.
 use Prim.Native.Nat.{◌≤◌, ◌-◌}
 use mathlib.Core.List.{◌++◌}
-use mathlib.Core.Path.{◌≡◌, refl, ◌∙◌}
-use lib.ListN.{length, take, drop, length-set}
-use Rattle.streams.proofs.Numbers.{store-next, store-all}
-use native.Mathlib.Omega.{arith}
-use borrow.Author.Rules.{rules}
+use mathlib.Core.Path.{◌≡◌}
+use lib.ListN.{length, take, drop}
 use Rattle.streams.proofs.bounds.store.Given as goal
 
 abbrev pub invariant-loop-i : goal.invariant-loop-i

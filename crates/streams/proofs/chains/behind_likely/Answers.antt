@@ -1,6 +1,5 @@
 -- The head is inside wherever the answer is not 0.
 use native.Mathlib.Omega.{arith}
-use borrow.Author.Rules.{rules}
 use Rattle.streams.proofs.chains.behind_likely.Goals as goal
 
 pub overflow_sub-s : goal.overflow_sub-s

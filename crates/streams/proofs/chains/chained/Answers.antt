@@ -3,11 +3,10 @@ use mathlib.Core.Path.{sym, ◌∙◌}
 use native.Mathlib.Omega.{arith}
 use Rattle.streams.proofs.Walk.{passed-grows}
 use Rattle.streams.proofs.Chained.{linked-above, run-below, chains-tile, chains-right, chained-apart, chained-met}
-use borrow.Author.Rules.{rules}
 use Rattle.streams.proofs.chains.chained.Goals as goal
 
 pub finish-requires : goal.finish-requires
-finish-requires c = (c.lockstep-t.ensures.linked.first, (c.requires.0, c.requires.1, c.requires.5, omega (arith, c.requires.6, c.wide-r.ensures, c.lockstep-t.ensures.sized), omega (arith, c.wide-r.ensures, c.ranges.room)))
+finish-requires c = record { linked = c.lockstep-t.ensures.linked.first; s_len_bound = (c.requires.0, c.requires.1, c.requires.5, omega (arith, c.requires.6, c.wide-r.ensures, c.lockstep-t.ensures.sized), omega (arith, c.wide-r.ensures, c.ranges.room)) }
 
 pub shape_of-places-in_default : goal.shape_of-places-in_default
 shape_of-places-in_default c = c.finish.ensures.within.sized ∙ c.lockstep-t.ensures.sized
@@ -16,7 +15,7 @@ pub returns-in_default : goal.returns-in_default
 returns-in_default c = chained-apart _ _ _ _ (c.finish.ensures.within.sized ∙ c.lockstep-t.ensures.sized)
 
 pub finish-requires-2 : goal.finish-requires-2
-finish-requires-2 c = (linked-above _ _ _ _ _ _ _ _ _ _ c.lockstep-t.ensures.linked.second _ _ _ c.finish.ensures.within (omega arith), (c.requires.0, c.requires.2, c.requires.5, omega (arith, c.requires.6, c.wide-r.ensures, c.lockstep-t.ensures.sized, c.finish.ensures.within.sized), omega (arith, c.wide-r.ensures, c.ranges.room)))
+finish-requires-2 c = record { linked = linked-above _ _ _ _ _ _ _ _ _ _ c.lockstep-t.ensures.linked.second _ _ _ c.finish.ensures.within (omega arith); s_len_bound = (c.requires.0, c.requires.2, c.requires.5, omega (arith, c.requires.6, c.wide-r.ensures, c.lockstep-t.ensures.sized, c.finish.ensures.within.sized), omega (arith, c.wide-r.ensures, c.ranges.room)) }
 
 pub shape_of-places-in_default-finish : goal.shape_of-places-in_default-finish
 shape_of-places-in_default-finish c = c.finish-2.ensures.within.sized ∙ c.finish.ensures.within.sized ∙ c.lockstep-t.ensures.sized
@@ -25,7 +24,7 @@ pub returns-in_default-finish : goal.returns-in_default-finish
 returns-in_default-finish c = chained-apart _ _ _ _ (c.finish-2.ensures.within.sized ∙ c.finish.ensures.within.sized ∙ c.lockstep-t.ensures.sized)
 
 pub finish-requires-3 : goal.finish-requires-3
-finish-requires-3 c = (linked-above _ _ _ _ _ _ _ _ _ _ (linked-above _ _ _ _ _ _ _ _ _ _ c.lockstep-t.ensures.linked.third _ _ _ c.finish.ensures.within (omega arith)) _ _ _ c.finish-2.ensures.within (omega arith), (c.requires.0, c.requires.3, c.requires.5, omega (arith, c.requires.6, c.wide-r.ensures, c.lockstep-t.ensures.sized, c.finish.ensures.within.sized, c.finish-2.ensures.within.sized), omega (arith, c.wide-r.ensures, c.ranges.room)))
+finish-requires-3 c = record { linked = linked-above _ _ _ _ _ _ _ _ _ _ (linked-above _ _ _ _ _ _ _ _ _ _ c.lockstep-t.ensures.linked.third _ _ _ c.finish.ensures.within (omega arith)) _ _ _ c.finish-2.ensures.within (omega arith); s_len_bound = (c.requires.0, c.requires.3, c.requires.5, omega (arith, c.requires.6, c.wide-r.ensures, c.lockstep-t.ensures.sized, c.finish.ensures.within.sized, c.finish-2.ensures.within.sized), omega (arith, c.wide-r.ensures, c.ranges.room)) }
 
 pub shape_of-places-in_default-finish-2 : goal.shape_of-places-in_default-finish-2
 shape_of-places-in_default-finish-2 c = c.finish-3.ensures.within.sized ∙ c.finish-2.ensures.within.sized ∙ c.finish.ensures.within.sized ∙ c.lockstep-t.ensures.sized
@@ -34,7 +33,7 @@ pub returns-in_default-finish-2 : goal.returns-in_default-finish-2
 returns-in_default-finish-2 c = chained-apart _ _ _ _ (c.finish-3.ensures.within.sized ∙ c.finish-2.ensures.within.sized ∙ c.finish.ensures.within.sized ∙ c.lockstep-t.ensures.sized)
 
 pub finish-requires-4 : goal.finish-requires-4
-finish-requires-4 c = (linked-above _ _ _ _ _ _ _ _ _ _ (linked-above _ _ _ _ _ _ _ _ _ _ (linked-above _ _ _ _ _ _ _ _ _ _ c.lockstep-t.ensures.linked.fourth _ _ _ c.finish.ensures.within (omega arith)) _ _ _ c.finish-2.ensures.within (omega arith)) _ _ _ c.finish-3.ensures.within (omega arith), (c.requires.0, c.requires.4, c.requires.5, omega (arith, c.requires.6, c.wide-r.ensures, c.lockstep-t.ensures.sized, c.finish.ensures.within.sized, c.finish-2.ensures.within.sized, c.finish-3.ensures.within.sized), omega (arith, c.wide-r.ensures, c.ranges.room)))
+finish-requires-4 c = record { linked = linked-above _ _ _ _ _ _ _ _ _ _ (linked-above _ _ _ _ _ _ _ _ _ _ (linked-above _ _ _ _ _ _ _ _ _ _ c.lockstep-t.ensures.linked.fourth _ _ _ c.finish.ensures.within (omega arith)) _ _ _ c.finish-2.ensures.within (omega arith)) _ _ _ c.finish-3.ensures.within (omega arith); s_len_bound = (c.requires.0, c.requires.4, c.requires.5, omega (arith, c.requires.6, c.wide-r.ensures, c.lockstep-t.ensures.sized, c.finish.ensures.within.sized, c.finish-2.ensures.within.sized, c.finish-3.ensures.within.sized), omega (arith, c.wide-r.ensures, c.ranges.room)) }
 
 pub shape_of-places-in_default-finish-3 : goal.shape_of-places-in_default-finish-3
 shape_of-places-in_default-finish-3 c = c.finish-4.ensures.within.sized ∙ c.finish-3.ensures.within.sized ∙ c.finish-2.ensures.within.sized ∙ c.finish.ensures.within.sized ∙ c.lockstep-t.ensures.sized

@@ -1,6 +1,5 @@
 -- Either says it.
 use native.Mathlib.Omega.{arith}
-use borrow.Author.Rules.{rules}
 use Rattle.streams.proofs.chains.chains_for.Goals as goal
 
 pub returns-then-count-lt192 : goal.returns-then-count-lt192

@@ -5,7 +5,6 @@ use lib.Seq.{length-take-le}
 use native.Mathlib.Omega.{arith}
 use Rattle.streams.proofs.Walk.{header-within, header-small}
 use Rattle.streams.proofs.Noted.{noted-good, noted-after}
-use borrow.Author.Rules.{rules}
 use Rattle.streams.proofs.chains.check_stream.Goals as goal
 
 pub shape_of-places-in_default : goal.shape_of-places-in_default

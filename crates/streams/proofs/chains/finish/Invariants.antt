@@ -1,12 +1,6 @@
 -- The invariant: the chain is linked, and only its part of the places has changed. The measure is how far its goal is.
-use Prim.Native.Nat.{◌+◌, ◌-◌, ◌≤◌}
-use native.Mathlib.Nat.{mul-le-mul}
-use mathlib.Core.Path.{◌∙◌}
-use native.Mathlib.Omega.{arith}
+use Prim.Native.Nat.{◌+◌, ◌-◌}
 use Rattle.streams.specs.Chains.{Linked, Within}
-use Rattle.streams.proofs.Walk.{behind-within}
-use Rattle.streams.proofs.Chained.{within_none, within-trans, linked-low, linked-few, linked-next, due-waits, finished-apart, finished-met}
-use borrow.Author.Rules.{rules}
 use Rattle.streams.proofs.chains.finish.Given as goal
 
 abbrev pub invariant-loop-at : goal.invariant-loop-at

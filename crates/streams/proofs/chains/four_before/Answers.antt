@@ -1,6 +1,6 @@
 -- Each of the four is there, before its goal, or one is not.
+use mathlib.Core.Path.{refl}
 use Rattle.streams.proofs.Chained.{before-beyond, before_at}
-use borrow.Author.Rules.{rules}
 use Rattle.streams.proofs.chains.four_before.Goals as goal
 
 pub before-requires : goal.before-requires
@@ -28,4 +28,4 @@ pub returns-in_default-before-3 : goal.returns-in_default-before-3
 returns-in_default-before-3 c = before-beyond _ _ _ _ _ _ _ _ _
 
 pub returns : goal.returns
-returns c = before_at _ _ _ _ _ _ _ _ _ c2.ensures c3.ensures c4.ensures c5.ensures _ _ _ _ c.in-At.is c.in-At-before.is c.in-At-before-2.is c.in-At-before-3.is
+returns c = before_at _ _ _ _ _ _ _ _ _ c.in-At.ensures c.in-At-before.ensures c.in-At-before-2.ensures c.in-At-before-3.ensures _ _ _ _ refl refl refl refl

@@ -1,7 +1,6 @@
 -- Nothing is done where there is no room or no header; else the four chains say it.
 use mathlib.Core.Path.{refl}
 use Rattle.streams.proofs.Chained.{chained-apart}
-use borrow.Author.Rules.{rules}
 use Rattle.streams.proofs.chains.four_chains.Goals as goal
 
 pub returns-then-room-eq0 : goal.returns-then-room-eq0

@@ -1,7 +1,5 @@
 -- A guess is inside, as a third head is. The measure is how far the places to try go.
 use Prim.Native.Nat.{◌-◌, ◌≤◌}
-use native.Mathlib.Omega.{arith}
-use borrow.Author.Rules.{rules}
 use Rattle.streams.proofs.chains.guess.Given as goal
 
 abbrev pub invariant-loop-at : goal.invariant-loop-at

@@ -1,8 +1,5 @@
-use Prim.Native.Nat.{◌-◌, ◌<◌}
 use native.Mathlib.Omega.{arith}
-use Rattle.streams.specs.Chains.{Stretched}
 use Rattle.streams.proofs.Chained.{stretched-start, stretched-next}
-use borrow.Author.Rules.{rules}
 use Rattle.streams.proofs.chains.in_step.Goals as goal
 
 pub loop-n-init : goal.loop-n-init

@@ -1,9 +1,6 @@
 -- The invariant: each chain is so many records behind its start, and before its goal. The measure is how many may follow.
 use Prim.Native.Nat.{◌-◌, ◌<◌}
-use native.Mathlib.Omega.{arith}
 use Rattle.streams.specs.Chains.{Stretched}
-use Rattle.streams.proofs.Chained.{stretched-start, stretched-next}
-use borrow.Author.Rules.{rules}
 use Rattle.streams.proofs.chains.in_step.Given as goal
 
 abbrev pub invariant-loop-n : goal.invariant-loop-n

@@ -1,7 +1,6 @@
 -- The last byte is the last chain's goal, where that is before it.
 use native.Mathlib.Omega.{arith}
 use Rattle.streams.proofs.Chained.{stretched-start}
-use borrow.Author.Rules.{rules}
 use Rattle.streams.proofs.chains.in_step_to_end.Goals as goal
 
 pub overflow_sub-w : goal.overflow_sub-w

@@ -1,6 +1,5 @@
 -- By the two tests.
 use Rattle.streams.proofs.Chained.{untrue}
-use borrow.Author.Rules.{rules}
 use Rattle.streams.proofs.chains.lies_before.Goals as goal
 
 pub returns-then-goal-end : goal.returns-then-goal-end

@@ -1,11 +1,8 @@
-use Prim.Native.Nat.{◌-◌, ◌<◌}
-use mathlib.Core.Path.{◌≡◌, refl, ◌∙◌}
-use lib.ListN.{length}
+use Prim.Native.Nat.{◌<◌}
+use mathlib.Core.Path.{refl, ◌∙◌}
 use native.Mathlib.Omega.{arith}
-use Rattle.streams.specs.Chains.{Together}
 use Rattle.streams.proofs.Walk.{passed-grows}
 use Rattle.streams.proofs.Chained.{linked-low, linked-few, due-waits, together-start, together-note, together-stretch, together-due}
-use borrow.Author.Rules.{rules}
 use Rattle.streams.proofs.chains.lockstep.Goals as goal
 
 pub overflow_mul-third : goal.overflow_mul-third

@@ -1,12 +1,8 @@
 -- The invariant: the four chains are linked, an entry of each is due, and no place is lost. The measure is what is left of the stream.
-use Prim.Native.Nat.{◌-◌, ◌<◌}
-use mathlib.Core.Path.{◌≡◌, refl, ◌∙◌}
+use Prim.Native.Nat.{◌-◌}
+use mathlib.Core.Path.{◌≡◌}
 use lib.ListN.{length}
-use native.Mathlib.Omega.{arith}
 use Rattle.streams.specs.Chains.{Together}
-use Rattle.streams.proofs.Walk.{passed-grows}
-use Rattle.streams.proofs.Chained.{linked-low, linked-few, due-waits, together-start, together-note, together-stretch, together-due}
-use borrow.Author.Rules.{rules}
 use Rattle.streams.proofs.chains.lockstep.Given as goal
 
 abbrev pub invariant-loop-x : goal.invariant-loop-x

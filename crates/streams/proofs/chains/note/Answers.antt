@@ -1,6 +1,5 @@
 -- The three cases: nothing due, no entry left, an entry noted.
 use Rattle.streams.proofs.Chained.{dued-later, dued-none, dued-now}
-use borrow.Author.Rules.{rules}
 use Rattle.streams.proofs.chains.note.Goals as goal
 
 pub returns-then-wait-gt0 : goal.returns-then-wait-gt0

@@ -1,6 +1,5 @@
 -- Either guess lies inside.
 use native.Mathlib.Omega.{arith}
-use borrow.Author.Rules.{rules}
 use Rattle.streams.proofs.chains.quick_guess.Goals as goal
 
 pub near_heads-at-requires : goal.near_heads-at-requires

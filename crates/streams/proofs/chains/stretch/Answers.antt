@@ -1,6 +1,5 @@
 -- The walk in step where each chain is before its goal, and no step where one is not.
 use Rattle.streams.proofs.Chained.{stretched-start}
-use borrow.Author.Rules.{rules}
 use Rattle.streams.proofs.chains.stretch.Goals as goal
 
 pub in_step_to_end-requires : goal.in_step_to_end-requires

@@ -1,6 +1,5 @@
 -- The third head is likely, so it is inside.
 use native.Mathlib.Omega.{arith}
-use borrow.Author.Rules.{rules}
 use Rattle.streams.proofs.chains.third_head.Goals as goal
 
 pub returns-then-second-eq0 : goal.returns-then-second-eq0

@@ -1,7 +1,6 @@
 use mathlib.Core.Path.{sym, ◌∙◌}
 use native.Mathlib.Omega.{arith}
-use borrow.Author.Rules.{rules}
-use Rattle.streams.proofs.Noting.{Noting, noting-start, noting-note, noting-next, noting-done, noting-full, noting-beyond}
+use Rattle.streams.proofs.Noting.{noting-start, noting-note, noting-next, noting-done, noting-full, noting-beyond}
 use Rattle.streams.proofs.places.behind_noting.Goals as goal
 
 pub loop-left-init : goal.loop-left-init

@@ -1,8 +1,5 @@
 -- The invariant: the entries so far are noted, and what is left is walked from the next one's record. The measure is what is left.
-use mathlib.Core.Path.{sym, ◌∙◌}
-use native.Mathlib.Omega.{arith}
-use borrow.Author.Rules.{rules}
-use Rattle.streams.proofs.Noting.{Noting, noting-start, noting-note, noting-next, noting-done, noting-full, noting-beyond}
+use Rattle.streams.proofs.Noting.{Noting}
 use Rattle.streams.proofs.places.behind_noting.Given as goal
 
 abbrev pub invariant-loop-left : goal.invariant-loop-left

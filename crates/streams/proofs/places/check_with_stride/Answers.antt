@@ -1,13 +1,12 @@
 -- A broken header, a walk past the end, or a walk that comes to a place: the cases of the definition, and the walk's notes.
-use mathlib.Core.Path.{refl, sym, ◌∙◌}
+use mathlib.Core.Path.{refl, sym}
 use mathlib.Core.Bool.{true, false}
 use lib.ListN.{length-take}
 use lib.Seq.{length-take-le}
 use borrow.Author.Tests.{eq-eqb, ne_eqb}
 use native.Mathlib.Omega.{arith}
-use Rattle.streams.proofs.Walk.{header-within, header-small}
+use Rattle.streams.proofs.Walk.{header-within, header-small, header-end}
 use Rattle.streams.proofs.Noted.{noted-headless, noted-tiling, noted-good, noted-past, noted-at, noted-marks}
-use borrow.Author.Rules.{rules}
 use Rattle.streams.proofs.places.check_with_stride.Goals as goal
 
 pub returns-in_default : goal.returns-in_default
@@ -32,7 +31,7 @@ pub returns-then-at-stop : goal.returns-then-at-stop
 returns-then-at-stop c = rw c.strided_by-spacing.ensures
     (noted-good _ _ c.header_of.ensures _ _ c.behind_noting.ensures.sized _ _ _ _ c.in-Good.is
     (noted-at _ _ _ _ _ _ _ c.behind_noting.ensures _ c.in-At.is (header-within _ c.header_of.ensures _ _ _ c.in-Good.is).1 true (eq-eqb _ _ c.if-at-stop.true))
-    (noted-marks c.args.s.now _ _ c.in-Good.stop _ _ _ c.behind_noting.ensures _ _ c.in-At.is (omega (arith, c.known_told-1.given))))
+    (noted-marks c.args.s.now _ _ c.in-Good.stop _ _ _ c.behind_noting.ensures _ _ c.in-At.is (omega (arith, header-end _ c.header_of.ensures _ _ _ c.in-Good.is))))
 
 pub returns : goal.returns
 returns c = noted-tiling _ _ c.header_of.ensures _ _ c.behind_noting.ensures.sized _ _ _ _ c.in-Good.is

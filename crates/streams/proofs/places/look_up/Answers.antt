@@ -4,7 +4,6 @@ use Rattle.streams.specs.declared.stream.Found.TheVariants.{Record, Missing, Cro
 use Rattle.streams.proofs.Marks.{mark-low}
 use Rattle.streams.proofs.Records.{look-cross, look-before, look-past, look-near}
 use native.Mathlib.Omega.{arith}
-use borrow.Author.Rules.{rules}
 use Rattle.streams.proofs.places.look_up.Goals as goal
 
 pub returns-then-index-ge2147483648 : goal.returns-then-index-ge2147483648

@@ -1,5 +1,4 @@
 -- The numbers are the spacing's.
-use borrow.Author.Rules.{rules}
 use Rattle.streams.proofs.places.mark_by.Goals as goal
 
 pub returns : goal.returns

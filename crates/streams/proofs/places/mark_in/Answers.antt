@@ -5,7 +5,6 @@ use lib.ListN.{get_or}
 use native.Mathlib.Omega.{arith}
 use Rattle.streams.specs.Places.{strided}
 use Rattle.streams.proofs.Marks.{step-before, mark-at, mark-out}
-use borrow.Author.Rules.{rules}
 use Rattle.streams.proofs.places.mark_in.Goals as goal
 
 pub overflow_mul-result : goal.overflow_mul-result

@@ -1,7 +1,6 @@
 -- The mark of the record's part.
 use mathlib.Core.Path.{sym, ◌∙◌}
 use native.Mathlib.Omega.{arith}
-use borrow.Author.Rules.{rules}
 use Rattle.streams.proofs.places.mark_of.Goals as goal
 
 pub mark_in-requires : goal.mark_in-requires

@@ -1,7 +1,6 @@
 -- The definition's cases.
 use mathlib.Core.Path.{refl}
 use Rattle.streams.specs.Stream.{no_ids}
-use borrow.Author.Rules.{rules}
 use Rattle.streams.proofs.places.no_ids.Goals as goal
 
 pub returns-in-Types : goal.returns-in-Types

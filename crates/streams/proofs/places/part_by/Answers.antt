@@ -1,7 +1,5 @@
 -- Each return is a case of the definition.
 use Rattle.streams.proofs.Marks.{parted-first, parted-second, parted-third, parted-fourth}
-use native.Mathlib.Omega.{arith}
-use borrow.Author.Rules.{rules}
 use Rattle.streams.proofs.places.part_by.Goals as goal
 
 pub returns-then-n-second : goal.returns-then-n-second

@@ -3,7 +3,6 @@ use native.Mathlib.Omega.{arith}
 use borrow.Author.Tests.{lt-ltb, le-ltb}
 use Rattle.streams.specs.Places.{serves}
 use Rattle.streams.proofs.Marks.{serves-within}
-use borrow.Author.Rules.{rules}
 use Rattle.streams.proofs.places.serves.Goals as goal
 
 pub returns-then-n-second : goal.returns-then-n-second

@@ -2,7 +2,6 @@
 use mathlib.Core.Path.{◌∙◌}
 use native.Mathlib.Omega.{arith}
 use Rattle.streams.proofs.Marks.{step-next, serves-at, serves-out}
-use borrow.Author.Rules.{rules}
 use Rattle.streams.proofs.places.serves_in.Goals as goal
 
 pub overflow_mul-end : goal.overflow_mul-end

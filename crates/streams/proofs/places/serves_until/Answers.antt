@@ -1,7 +1,6 @@
 -- The number's, counted from the first index.
 use native.Mathlib.Omega.{arith}
 use Rattle.streams.specs.Places.{serves_until}
-use borrow.Author.Rules.{rules}
 use Rattle.streams.proofs.places.serves_until.Goals as goal
 
 pub overflow_add-result : goal.overflow_add-result

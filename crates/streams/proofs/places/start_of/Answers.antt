@@ -2,7 +2,6 @@
 use native.Mathlib.Omega.{arith}
 use Rattle.streams.specs.Places.{nearest}
 use Rattle.streams.proofs.Marks.{mark-low}
-use borrow.Author.Rules.{rules}
 use Rattle.streams.proofs.places.start_of.Goals as goal
 
 pub overflow_add-result : goal.overflow_add-result

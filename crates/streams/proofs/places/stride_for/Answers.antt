@@ -1,6 +1,4 @@
-use Prim.Native.Nat.{◌-◌, ◌<◌}
 use native.Mathlib.Omega.{arith}
-use borrow.Author.Rules.{rules}
 use Rattle.streams.proofs.places.stride_for.Goals as goal
 
 pub loop-stride-init : goal.loop-stride-init

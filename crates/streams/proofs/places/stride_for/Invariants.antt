@@ -1,7 +1,5 @@
 -- The invariant: the stride is not 0. The measure is how far it is from its bound.
 use Prim.Native.Nat.{◌-◌, ◌<◌}
-use native.Mathlib.Omega.{arith}
-use borrow.Author.Rules.{rules}
 use Rattle.streams.proofs.places.stride_for.Given as goal
 
 abbrev pub invariant-loop-stride : goal.invariant-loop-stride

@@ -1,7 +1,5 @@
 -- A division, and those by 8, 1 and 0.
-use mathlib.Core.Path.{sym, ◌∙◌}
 use native.Mathlib.Nat.{div-zero, div-one}
-use borrow.Author.Rules.{rules}
 use Rattle.streams.proofs.places.strides.Goals as goal
 
 pub returns-then-stride-eq8 : goal.returns-then-stride-eq8

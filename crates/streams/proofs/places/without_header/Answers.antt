@@ -1,7 +1,6 @@
 -- The definition's cases.
 use mathlib.Core.Path.{sym, ◌∙◌}
 use Rattle.streams.specs.Stream.{headless}
-use borrow.Author.Rules.{rules}
 use Rattle.streams.proofs.places.without_header.Goals as goal
 
 pub returns-then-no_ids : goal.returns-then-no_ids

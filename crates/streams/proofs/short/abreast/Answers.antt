@@ -1,10 +1,6 @@
-use Prim.Native.Nat.{◌+◌, ◌-◌, ◌<◌}
-use mathlib.Core.Path.{◌≡◌, refl, ◌∙◌}
-use lib.ListN.{length}
+use mathlib.Core.Path.{refl, ◌∙◌}
 use native.Mathlib.Omega.{arith}
-use Rattle.streams.specs.Short.{Quad}
 use Rattle.streams.proofs.Traced.{quad-start, quad-note, sets-sized, in-second, in-third, in-fourth, quad-next, quad-ends}
-use borrow.Author.Rules.{rules}
 use Rattle.streams.proofs.short.abreast.Goals as goal
 
 pub overflow_sub-end : goal.overflow_sub-end
@@ -80,7 +76,7 @@ pub loop-k-smaller : goal.loop-k-smaller
 loop-k-smaller c = omega (arith, c.if-k-ge63.false)
 
 pub loop-k-preserved : goal.loop-k-preserved
-loop-k-preserved c = (quad-next _ _ _ _ _ _ _ _ _ _ _ (quad-note _ _ _ _ _ _ _ _ _ _ c.loop-k.invariant.0 c.loop-k.invariant.2 (omega (arith, c.loop-k.invariant.1, c.requires.5))) _ _ _ _ (c2.ensures.is _ c.in-At.is) (c3.ensures.is _ c.in-At-before.is) (c4.ensures.is _ c.in-At-before-2.is) (c5.ensures.is _ c.in-At-before-3.is), sets-sized c.loop-k.places c.loop-k.a c.loop-k.b c.loop-k.c c.loop-k.d c.loop-k.k ∙ c.loop-k.invariant.1, omega (arith, c.if-k-ge63.false), c2.ensures.low _ c.in-At.is, c3.ensures.low _ c.in-At-before.is, c4.ensures.low _ c.in-At-before-2.is, omega (arith, c5.ensures.low _ c.in-At-before-3.is))
+loop-k-preserved c = (quad-next _ _ _ _ _ _ _ _ _ _ _ (quad-note _ _ _ _ _ _ _ _ _ _ c.loop-k.invariant.0 c.loop-k.invariant.2 (omega (arith, c.loop-k.invariant.1, c.requires.5))) _ _ _ _ (c.in-At.ensures.is _ refl) (c.in-At-before.ensures.is _ refl) (c.in-At-before-2.ensures.is _ refl) (c.in-At-before-3.ensures.is _ refl), sets-sized c.loop-k.places c.loop-k.a c.loop-k.b c.loop-k.c c.loop-k.d c.loop-k.k ∙ c.loop-k.invariant.1, omega (arith, c.if-k-ge63.false), c.in-At.ensures.low _ refl, c.in-At-before.ensures.low _ refl, c.in-At-before-2.ensures.low _ refl, omega (arith, c.in-At-before-3.ensures.low _ refl))
 
 pub shape_of-places-then-k-ge63 : goal.shape_of-places-then-k-ge63
 shape_of-places-then-k-ge63 c = sets-sized c.loop-k.places c.loop-k.a c.loop-k.b c.loop-k.c c.loop-k.d c.loop-k.k ∙ c.loop-k.invariant.1

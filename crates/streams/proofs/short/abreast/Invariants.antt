@@ -1,11 +1,8 @@
 -- The invariant: each chain is where its last record ends and before its goal, and the places of the records before are noted. The measure is how many entries are left.
 use Prim.Native.Nat.{◌+◌, ◌-◌, ◌<◌}
-use mathlib.Core.Path.{◌≡◌, refl, ◌∙◌}
+use mathlib.Core.Path.{◌≡◌}
 use lib.ListN.{length}
-use native.Mathlib.Omega.{arith}
 use Rattle.streams.specs.Short.{Quad}
-use Rattle.streams.proofs.Traced.{quad-start, quad-note, sets-sized, in-second, in-third, in-fourth, quad-next, quad-ends}
-use borrow.Author.Rules.{rules}
 use Rattle.streams.proofs.short.abreast.Given as goal
 
 abbrev pub invariant-loop-k : goal.invariant-loop-k

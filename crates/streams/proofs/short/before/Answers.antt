@@ -3,7 +3,6 @@ use native.Mathlib.Omega.{arith}
 use Rattle.streams.proofs.Traced.{before-none, before-some}
 use Rattle.streams.specs.declared.stream.Place.TheVariants.{At, Beyond}
 use Rattle.streams.proofs.Records.{behind-ends}
-use borrow.Author.Rules.{rules}
 use Rattle.streams.proofs.short.before.Goals as goal
 
 pub two-size-requires : goal.two-size-requires

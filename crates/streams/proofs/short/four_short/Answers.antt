@@ -4,11 +4,10 @@ use native.Mathlib.Omega.{arith}
 use Rattle.streams.proofs.Walk.{passed-grows}
 use Rattle.streams.proofs.Chained.{run-below, chains-tile, chains-right, chained-apart, chained-met}
 use Rattle.streams.proofs.Traced.{traced-above}
-use borrow.Author.Rules.{rules}
 use Rattle.streams.proofs.short.four_short.Goals as goal
 
 pub rest-requires : goal.rest-requires
-rest-requires c = (c.abreast-k.ensures.quad.first, (c.requires.0, omega (arith, c.requires.4), c.abreast-k.ensures.few, omega (arith, c.requires.5, c.abreast-k.ensures.sized), omega (arith, c.requires.2, c.requires.3, c.requires.4)))
+rest-requires c = record { traced = c.abreast-k.ensures.quad.first; s_len_bound = (c.requires.0, omega (arith, c.requires.4), c.abreast-k.ensures.few, omega (arith, c.requires.5, c.abreast-k.ensures.sized), omega (arith, c.requires.2, c.requires.3, c.requires.4)) }
 
 pub shape_of-places-in_default : goal.shape_of-places-in_default
 shape_of-places-in_default c = c.rest.ensures.within.sized ∙ c.abreast-k.ensures.sized
@@ -17,7 +16,7 @@ pub returns-in_default : goal.returns-in_default
 returns-in_default c = chained-apart _ _ _ _ (c.rest.ensures.within.sized ∙ c.abreast-k.ensures.sized)
 
 pub rest-requires-2 : goal.rest-requires-2
-rest-requires-2 c = (traced-above _ _ _ _ _ _ c.abreast-k.ensures.few c.abreast-k.ensures.quad.second _ _ _ c.rest.ensures.within (omega arith), (c.requires.0, omega (arith, c.requires.4), c.abreast-k.ensures.few, omega (arith, c.requires.5, c.abreast-k.ensures.sized, c.rest.ensures.within.sized), omega (arith, c.requires.3, c.requires.4)))
+rest-requires-2 c = record { traced = traced-above _ _ _ _ _ _ c.abreast-k.ensures.few c.abreast-k.ensures.quad.second _ _ _ c.rest.ensures.within (omega arith); s_len_bound = (c.requires.0, omega (arith, c.requires.4), c.abreast-k.ensures.few, omega (arith, c.requires.5, c.abreast-k.ensures.sized, c.rest.ensures.within.sized), omega (arith, c.requires.3, c.requires.4)) }
 
 pub shape_of-places-in_default-rest : goal.shape_of-places-in_default-rest
 shape_of-places-in_default-rest c = c.rest-2.ensures.within.sized ∙ c.rest.ensures.within.sized ∙ c.abreast-k.ensures.sized
@@ -26,7 +25,7 @@ pub returns-in_default-rest : goal.returns-in_default-rest
 returns-in_default-rest c = chained-apart _ _ _ _ (c.rest-2.ensures.within.sized ∙ c.rest.ensures.within.sized ∙ c.abreast-k.ensures.sized)
 
 pub rest-requires-3 : goal.rest-requires-3
-rest-requires-3 c = (traced-above _ _ _ _ _ _ c.abreast-k.ensures.few (traced-above _ _ _ _ _ _ c.abreast-k.ensures.few c.abreast-k.ensures.quad.third _ _ _ c.rest.ensures.within (omega arith)) _ _ _ c.rest-2.ensures.within (omega arith), (c.requires.0, omega (arith, c.requires.4), c.abreast-k.ensures.few, omega (arith, c.requires.5, c.abreast-k.ensures.sized, c.rest.ensures.within.sized, c.rest-2.ensures.within.sized), omega (arith, c.requires.4)))
+rest-requires-3 c = record { traced = traced-above _ _ _ _ _ _ c.abreast-k.ensures.few (traced-above _ _ _ _ _ _ c.abreast-k.ensures.few c.abreast-k.ensures.quad.third _ _ _ c.rest.ensures.within (omega arith)) _ _ _ c.rest-2.ensures.within (omega arith); s_len_bound = (c.requires.0, omega (arith, c.requires.4), c.abreast-k.ensures.few, omega (arith, c.requires.5, c.abreast-k.ensures.sized, c.rest.ensures.within.sized, c.rest-2.ensures.within.sized), omega (arith, c.requires.4)) }
 
 pub shape_of-places-in_default-rest-2 : goal.shape_of-places-in_default-rest-2
 shape_of-places-in_default-rest-2 c = c.rest-3.ensures.within.sized ∙ c.rest-2.ensures.within.sized ∙ c.rest.ensures.within.sized ∙ c.abreast-k.ensures.sized
@@ -35,7 +34,7 @@ pub returns-in_default-rest-2 : goal.returns-in_default-rest-2
 returns-in_default-rest-2 c = chained-apart _ _ _ _ (c.rest-3.ensures.within.sized ∙ c.rest-2.ensures.within.sized ∙ c.rest.ensures.within.sized ∙ c.abreast-k.ensures.sized)
 
 pub rest-requires-4 : goal.rest-requires-4
-rest-requires-4 c = (traced-above _ _ _ _ _ _ c.abreast-k.ensures.few (traced-above _ _ _ _ _ _ c.abreast-k.ensures.few (traced-above _ _ _ _ _ _ c.abreast-k.ensures.few c.abreast-k.ensures.quad.fourth _ _ _ c.rest.ensures.within (omega arith)) _ _ _ c.rest-2.ensures.within (omega arith)) _ _ _ c.rest-3.ensures.within (omega arith), (c.requires.0, omega (arith, c.requires.4), c.abreast-k.ensures.few, omega (arith, c.requires.5, c.abreast-k.ensures.sized, c.rest.ensures.within.sized, c.rest-2.ensures.within.sized, c.rest-3.ensures.within.sized), omega arith))
+rest-requires-4 c = record { traced = traced-above _ _ _ _ _ _ c.abreast-k.ensures.few (traced-above _ _ _ _ _ _ c.abreast-k.ensures.few (traced-above _ _ _ _ _ _ c.abreast-k.ensures.few c.abreast-k.ensures.quad.fourth _ _ _ c.rest.ensures.within (omega arith)) _ _ _ c.rest-2.ensures.within (omega arith)) _ _ _ c.rest-3.ensures.within (omega arith); s_len_bound = (c.requires.0, omega (arith, c.requires.4), c.abreast-k.ensures.few, omega (arith, c.requires.5, c.abreast-k.ensures.sized, c.rest.ensures.within.sized, c.rest-2.ensures.within.sized, c.rest-3.ensures.within.sized), omega arith) }
 
 pub shape_of-places-in_default-rest-3 : goal.shape_of-places-in_default-rest-3
 shape_of-places-in_default-rest-3 c = c.rest-4.ensures.within.sized ∙ c.rest-3.ensures.within.sized ∙ c.rest-2.ensures.within.sized ∙ c.rest.ensures.within.sized ∙ c.abreast-k.ensures.sized

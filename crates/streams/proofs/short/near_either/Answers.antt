@@ -1,6 +1,5 @@
 -- Nothing is said of a guess.
 use native.Mathlib.Omega.{arith}
-use borrow.Author.Rules.{rules}
 use Rattle.streams.proofs.short.near_either.Goals as goal
 
 pub near_heads-at-requires : goal.near_heads-at-requires

@@ -1,7 +1,5 @@
 -- The measure is how far the stream may go.
 use Prim.Native.Nat.{◌-◌, ◌≤◌}
-use native.Mathlib.Omega.{arith}
-use borrow.Author.Rules.{rules}
 use Rattle.streams.proofs.short.near_heads.Given as goal
 
 abbrev pub invariant-loop-at : goal.invariant-loop-at

@@ -1,7 +1,6 @@
 -- The entry is noted, or there is none.
 use native.Mathlib.Omega.{arith}
 use Rattle.streams.proofs.Traced.{noted_in, noted-out}
-use borrow.Author.Rules.{rules}
 use Rattle.streams.proofs.short.note_in.Goals as goal
 
 pub overflow_cast-places : goal.overflow_cast-places

@@ -1,15 +1,8 @@
 -- The invariant: inside the stream the chain is traced, and only its part of the places has changed. The measure is how far its goal is.
 use Prim.Native.Nat.{◌+◌, ◌-◌, ◌≤◌}
-use mathlib.Core.Path.{◌∙◌}
 use lib.ListN.{length}
-use native.Mathlib.Omega.{arith}
 use Rattle.streams.specs.Chains.{Within}
 use Rattle.streams.specs.Short.{Traced}
-use Rattle.streams.proofs.Chained.{within_none, within-trans, finished-apart}
-use Rattle.streams.proofs.Traced.{traced-next, traced-few, traced-met}
-use Rattle.streams.specs.declared.stream.Place.TheVariants.{At, Beyond}
-use Rattle.streams.proofs.Records.{behind-ends}
-use borrow.Author.Rules.{rules}
 use Rattle.streams.proofs.short.rest.Given as goal
 
 abbrev pub invariant-loop-at : goal.invariant-loop-at

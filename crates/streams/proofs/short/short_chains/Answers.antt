@@ -2,7 +2,6 @@
 use mathlib.Core.Path.{refl}
 use native.Mathlib.Omega.{arith}
 use Rattle.streams.proofs.Chained.{chained-apart}
-use borrow.Author.Rules.{rules}
 use Rattle.streams.proofs.short.short_chains.Goals as goal
 
 pub returns-then-places-lt256 : goal.returns-then-places-lt256

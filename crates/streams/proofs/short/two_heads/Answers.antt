@@ -1,6 +1,5 @@
 -- All of it is inside.
 use native.Mathlib.Omega.{arith}
-use borrow.Author.Rules.{rules}
 use Rattle.streams.proofs.short.two_heads.Goals as goal
 
 pub overflow_add-at : goal.overflow_add-at

@@ -2,7 +2,6 @@
 use mathlib.Core.Path.{sym, ◌∙◌, ap}
 use native.Mathlib.Omega.{arith}
 use Rattle.streams.proofs.Handed.{moved_place, place-moved, place-fits}
-use borrow.Author.Rules.{rules}
 use Rattle.streams.proofs.stream.behind_from.Goals as goal
 
 pub slice_bounds-behind_records-count : goal.slice_bounds-behind_records-count

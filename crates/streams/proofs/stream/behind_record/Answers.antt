@@ -3,7 +3,6 @@ use mathlib.Core.Path.{sym}
 use Rattle.streams.specs.declared.stream.Place.TheVariants.{At, Beyond}
 use Rattle.streams.proofs.Records.{behind-out, behind-few, behind-long, behind-ends}
 use native.Mathlib.Omega.{arith}
-use borrow.Author.Rules.{rules}
 use Rattle.streams.proofs.stream.behind_record.Goals as goal
 
 pub returns-then-s-lt4 : goal.returns-then-s-lt4

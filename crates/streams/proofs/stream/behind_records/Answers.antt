@@ -1,10 +1,7 @@
-use Prim.Native.Nat.{ℕ}
-use mathlib.Core.Path.{◌≡◌, refl, sym, ◌∙◌}
-use Rattle.streams.specs.Stream.{passed}
+use mathlib.Core.Path.{refl, sym, ◌∙◌}
 use Rattle.streams.specs.declared.stream.Place.TheVariants.{At, Beyond}
 use Rattle.streams.proofs.Walk.{behind-at, behind-beyond, passed_none, passed-more}
 use native.Mathlib.Omega.{arith}
-use borrow.Author.Rules.{rules}
 use Rattle.streams.proofs.stream.behind_records.Goals as goal
 
 pub loop-left-init : goal.loop-left-init

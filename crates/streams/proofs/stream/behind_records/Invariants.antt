@@ -1,11 +1,7 @@
 -- The invariant: passing what is left from here is passing all from the start. The measure is what is left.
-use Prim.Native.Nat.{ℕ}
-use mathlib.Core.Path.{◌≡◌, refl, sym, ◌∙◌}
+use mathlib.Core.Path.{◌≡◌}
 use Rattle.streams.specs.Stream.{passed}
 use Rattle.streams.specs.declared.stream.Place.TheVariants.{At, Beyond}
-use Rattle.streams.proofs.Walk.{behind-at, behind-beyond, passed_none, passed-more}
-use native.Mathlib.Omega.{arith}
-use borrow.Author.Rules.{rules}
 use Rattle.streams.proofs.stream.behind_records.Given as goal
 
 abbrev pub invariant-loop-left : goal.invariant-loop-left

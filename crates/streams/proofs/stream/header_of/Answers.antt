@@ -2,7 +2,6 @@
 use borrow.Author.Tests.{le-leb, lt-leb, eq-eqb, ne_eqb}
 use Rattle.wire.proofs.Laws.{read32, unread32}
 use Rattle.streams.specs.Stream.{header}
-use borrow.Author.Rules.{rules}
 use Rattle.streams.proofs.stream.header_of.Goals as goal
 
 pub returns-then-s-gt16777216 : goal.returns-then-s-gt16777216

@@ -2,7 +2,6 @@
 use borrow.Author.Tests.{le-leb, lt-leb}
 use Rattle.wire.proofs.Laws.{read32, unread32}
 use Rattle.streams.specs.Stream.{indexes}
-use borrow.Author.Rules.{rules}
 use Rattle.streams.proofs.stream.indexes_of.Goals as goal
 
 pub returns-in_default : goal.returns-in_default

@@ -1,5 +1,4 @@
 -- The index behind one with bit 31 set has it too.
-use borrow.Author.Rules.{rules}
 use borrow.Author.Tests.{le-leb}
 use native.Mathlib.Omega.{arith}
 use Prim.Native.Nat.{◌+◌}

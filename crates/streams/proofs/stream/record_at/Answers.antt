@@ -3,7 +3,6 @@ use mathlib.Core.Path.{sym}
 use Rattle.streams.specs.declared.stream.Found.TheVariants.{Record, Missing}
 use Rattle.streams.proofs.Records.{record-out, record-few, record-long, record-in}
 use native.Mathlib.Omega.{arith}
-use borrow.Author.Rules.{rules}
 use Rattle.streams.proofs.stream.record_at.Goals as goal
 
 pub returns-then-s-lt4 : goal.returns-then-s-lt4

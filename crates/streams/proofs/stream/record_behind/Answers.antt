@@ -1,10 +1,9 @@
-use mathlib.Core.Path.{◌≡◌, refl, sym, ◌∙◌}
-use Rattle.streams.specs.Stream.{passed, record_at}
+use mathlib.Core.Path.{refl, sym, ◌∙◌}
+use Rattle.streams.specs.Stream.{record_at}
 use Rattle.streams.specs.declared.stream.Found.TheVariants.{Record, Missing}
 use Rattle.streams.proofs.Walk.{passed_none}
 use Rattle.streams.proofs.Records.{passed-out, passed-few, passed-step}
 use native.Mathlib.Omega.{arith}
-use borrow.Author.Rules.{rules}
 use Rattle.streams.proofs.stream.record_behind.Goals as goal
 
 pub returns-then-s-lt4 : goal.returns-then-s-lt4

@@ -1,11 +1,7 @@
 -- The invariant: what stands behind what is left from here stands behind all from the start. The measure is what is left.
-use mathlib.Core.Path.{◌≡◌, refl, sym, ◌∙◌}
+use mathlib.Core.Path.{◌≡◌}
 use Rattle.streams.specs.Stream.{passed, record_at}
 use Rattle.streams.specs.declared.stream.Found.TheVariants.{Record, Missing}
-use Rattle.streams.proofs.Walk.{passed_none}
-use Rattle.streams.proofs.Records.{passed-out, passed-few, passed-step}
-use native.Mathlib.Omega.{arith}
-use borrow.Author.Rules.{rules}
 use Rattle.streams.proofs.stream.record_behind.Given as goal
 
 abbrev pub invariant-loop-left : goal.invariant-loop-left

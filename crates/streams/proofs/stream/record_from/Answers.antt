@@ -4,7 +4,6 @@ use native.Mathlib.Omega.{arith}
 use Rattle.streams.specs.declared.stream.Found.TheVariants.{Record, Missing}
 use Rattle.streams.proofs.Records.{passed-out}
 use Rattle.streams.proofs.Handed.{moved_found, found-moved, found-fits}
-use borrow.Author.Rules.{rules}
 use Rattle.streams.proofs.stream.record_from.Goals as goal
 
 pub returns-then-s-from : goal.returns-then-s-from

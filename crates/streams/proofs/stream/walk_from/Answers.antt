@@ -1,5 +1,4 @@
 -- Each return is a case of the definition.
-use borrow.Author.Rules.{rules}
 use borrow.Author.Tests.{lt-leb, le-leb, lt-ltb, le-ltb}
 use Rattle.streams.specs.Stream.{walk_from}
 use Rattle.streams.proofs.Walk.{passed-at, passed-beyond}

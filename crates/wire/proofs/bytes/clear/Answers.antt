@@ -1,7 +1,7 @@
-use Prim.Native.Nat.{◌≤◌, ◌-◌}
-use mathlib.Core.List.{◌++◌, append-nil}
+use Prim.Native.Nat.{◌≤◌}
+use mathlib.Core.List.{append-nil}
 use mathlib.Core.Path.{◌≡◌, refl, ◌∙◌}
-use lib.ListN.{length, drop, replicate, length-set, drop_of_length-le}
+use lib.ListN.{length, length-set, drop_of_length-le}
 use borrow.Author.Fill.{fill_none, fill_more}
 use native.Mathlib.Omega.{arith}
 use Rattle.wire.proofs.bytes.clear.Goals as goal

@@ -1,8 +1,6 @@
 -- Two halves of two bytes each, by the law over the width.
 use Rattle.wire.proofs.Laws.{number-split}
-use mathlib.Core.Path.{◌∙◌, sym}
 use native.Mathlib.Omega.{arith}
-use borrow.Author.Rules.{rules}
 use Rattle.wire.proofs.field.four.Goals as goal
 
 pub returns : goal.returns

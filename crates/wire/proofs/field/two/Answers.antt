@@ -1,7 +1,6 @@
 -- The first byte and 256 times the second, as the definition sums two bytes.
 use Rattle.wire.specs.Field.{number}
 use native.Mathlib.Omega.{arith}
-use borrow.Author.Rules.{rules}
 use Rattle.wire.proofs.field.two.Goals as goal
 
 pub returns : goal.returns

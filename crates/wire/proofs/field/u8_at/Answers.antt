@@ -2,7 +2,6 @@
 use Rattle.wire.specs.Field.{number}
 use Rattle.wire.proofs.Laws.{field-short, field-long}
 use native.Mathlib.Omega.{arith}
-use borrow.Author.Rules.{rules}
 use Rattle.wire.proofs.field.u8_at.Goals as goal
 
 pub returns-then-left-lt1 : goal.returns-then-left-lt1

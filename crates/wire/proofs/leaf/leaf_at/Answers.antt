@@ -3,7 +3,6 @@ use Rattle.wire.specs.Leaf.{leaf, width_of}
 use Rattle.wire.proofs.Laws.{within16, read16, unread16}
 use borrow.Author.Tests.{lt-ltb, le-ltb}
 use native.Mathlib.Omega.{arith}
-use borrow.Author.Rules.{rules}
 use Rattle.wire.proofs.leaf.leaf_at.Goals as goal
 
 pub returns-in_default : goal.returns-in_default

@@ -2,7 +2,6 @@
 use Rattle.wire.specs.Leaf.{payload}
 use Rattle.wire.proofs.Laws.{within16, read16, unread16}
 use native.Mathlib.Omega.{arith}
-use borrow.Author.Rules.{rules}
 use Rattle.wire.proofs.leaf.number16.Goals as goal
 
 pub returns-in_default : goal.returns-in_default

@@ -2,7 +2,6 @@
 use Rattle.wire.specs.Leaf.{payload}
 use Rattle.wire.proofs.Laws.{within32, read32, unread32}
 use native.Mathlib.Omega.{arith}
-use borrow.Author.Rules.{rules}
 use Rattle.wire.proofs.leaf.number32.Goals as goal
 
 pub returns-in_default : goal.returns-in_default

@@ -2,7 +2,6 @@
 use Rattle.wire.specs.Leaf.{payload}
 use Rattle.wire.proofs.Laws.{within64, read64, unread64}
 use native.Mathlib.Omega.{arith}
-use borrow.Author.Rules.{rules}
 use Rattle.wire.proofs.leaf.number64.Goals as goal
 
 pub returns-in_default : goal.returns-in_default

@@ -2,7 +2,6 @@
 use Rattle.wire.specs.Leaf.{payload}
 use Rattle.wire.proofs.Laws.{within8, read8, unread8}
 use native.Mathlib.Omega.{arith}
-use borrow.Author.Rules.{rules}
 use Rattle.wire.proofs.leaf.number8.Goals as goal
 
 pub returns-in_default : goal.returns-in_default

@@ -1,7 +1,6 @@
 -- Each lead that is listed gives its width; any other none.
 use Rattle.wire.specs.Leaf.{size_width, payload}
 use borrow.Author.Tests.{ne_eqb}
-use borrow.Author.Rules.{rules}
 use Rattle.wire.proofs.leaf.size_number.Goals as goal
 
 pub returns-in-32770 : goal.returns-in-32770

@@ -1,7 +1,6 @@
 -- Each signed lead gives its width; any other is a size's.
 use Rattle.wire.specs.Leaf.{value_width}
 use borrow.Author.Tests.{ne_eqb}
-use borrow.Author.Rules.{rules}
 use Rattle.wire.proofs.leaf.value_number.Goals as goal
 
 pub returns-in-32768 : goal.returns-in-32768

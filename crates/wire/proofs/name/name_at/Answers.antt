@@ -1,11 +1,8 @@
-use Prim.Native.Nat.{◌≤◌, ◌-◌}
-use mathlib.Core.Path.{◌≡◌, ◌∙◌}
-use lib.ListN.{length}
+use mathlib.Core.Path.{◌∙◌}
 use borrow.Author.Tests.{lt-ltb, le-ltb}
-use Rattle.wire.specs.Name.{name, name_end}
+use Rattle.wire.specs.Name.{name}
 use Rattle.wire.proofs.Laws.{zero-here, zero-later, zero-none}
 use native.Mathlib.Omega.{arith}
-use borrow.Author.Rules.{rules}
 use Rattle.wire.proofs.name.name_at.Goals as goal
 
 pub loop-end-init : goal.loop-end-init

@@ -1,10 +1,6 @@
-use Prim.Native.Nat.{◌≤◌, ◌-◌}
-use mathlib.Core.Path.{◌≡◌, refl, sym, ◌∙◌}
-use lib.ListN.{length}
-use Rattle.wire.specs.Name.{name_end}
+use mathlib.Core.Path.{refl, sym, ◌∙◌}
 use Rattle.wire.proofs.Laws.{zero-behind}
 use native.Mathlib.Omega.{arith}
-use borrow.Author.Rules.{rules}
 use Rattle.wire.proofs.name.skip_eights.Goals as goal
 
 pub loop-end-init : goal.loop-end-init

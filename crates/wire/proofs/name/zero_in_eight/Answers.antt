@@ -1,7 +1,6 @@
 -- The eight tests are those of the definition.
 use native.Mathlib.Nat.{add-zero}
 use Rattle.wire.specs.Name.{zero_among}
-use borrow.Author.Rules.{rules}
 use Rattle.wire.proofs.name.zero_in_eight.Goals as goal
 
 pub returns : goal.returns

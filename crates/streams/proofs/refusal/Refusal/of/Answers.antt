@@ -1,7 +1,6 @@
 -- By the number: each row's own refusal, and 16 for any other.
 use borrow.Author.Tests.{ne_eqb}
 use Rattle.streams.specs.Refusal.{refusal_of}
-use borrow.Author.Rules.{rules}
 use Rattle.streams.proofs.refusal.Refusal.of.Goals as goal
 
 pub returns-in-1 : goal.returns-in-1

@@ -1,6 +1,5 @@
 -- By whether the detail is 0.
 use borrow.Author.Tests.{ne_eqb}
-use borrow.Author.Rules.{rules}
 use Rattle.streams.proofs.refusal.StreamKind.of.Goals as goal
 
 pub returns-then-detail-eq0 : goal.returns-then-detail-eq0
