@@ -13,7 +13,7 @@ use Rattle.wire.proofs.Laws.{field-long, map-pick, map-field, map-name, within_n
 use Rattle.wire.specs.declared.name.Name.{Name}
 use Rattle.wire.specs.declared.name.NameRead.{NameRead}
 use Rattle.wire.specs.declared.name.NameRead.TheVariants as name_read
-use Rattle.codeview.specs.Record.{place, placed, names, entries, bit}
+use Rattle.codeview.specs.Record.{place, placed, names, entries}
 use Rattle.codeview.specs.IdRecord.{function_parts}
 use Rattle.codeview.specs.declared.record.Entries.{Entries}
 use Rattle.codeview.specs.declared.record.UniqueName.{UniqueName}

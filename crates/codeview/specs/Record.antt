@@ -9,7 +9,7 @@ use Rattle.wire.specs.declared.name.NameRead.{NameRead}
 use Rattle.wire.specs.declared.name.NameRead.TheVariants.{Ended, Unended}
 use Rattle.codeview.specs.declared.index.TypeIndex.{TypeIndex}
 use Rattle.codeview.specs.declared.index.IdIndex.{IdIndex}
-use Rattle.streams.specs.declared.refusal.Refusal.TheVariants.{Malformed, UnlistedKind}
+use Rattle.streams.specs.declared.refusal.Refusal.TheVariants.{UnlistedKind}
 use Rattle.codeview.specs.declared.record.Entries.{Entries}
 use Rattle.codeview.specs.declared.record.PointerMode.{PointerMode}
 use Rattle.codeview.specs.declared.record.PointerMode.TheVariants as mode
@@ -17,7 +17,6 @@ use Rattle.codeview.specs.declared.record.ClassKind.{ClassKind}
 use Rattle.codeview.specs.declared.record.ClassKind.TheVariants as class
 use Rattle.codeview.specs.declared.record.UniqueName.{UniqueName}
 use Rattle.codeview.specs.declared.record.UniqueName.TheVariants.{Given, Absent}
-use Rattle.codeview.specs.declared.record.TypeData.{TypeData}
 use Rattle.codeview.specs.declared.record.TypeData.TheVariants as type
 use Rattle.codeview.specs.declared.record.TypeRead.{TypeRead}
 use Rattle.codeview.specs.declared.record.TypeRead.TheVariants.{Good, Refused}

@@ -1,62 +1,14 @@
 -- The laws of programs, whatever the rules are: the two modes agree until something is noted, a finished reading stays, and the strict walk ends.
 -- Assumes nothing.
-use Prim.Native.Nat.{ℕ, zero, suc, ◌+◌, ◌*◌, ◌-◌, ◌≤◌, ◌<◌}
+use Prim.Native.Nat.{ℕ, zero, suc, ◌+◌, ◌≤◌, ◌<◌}
 use mathlib.Core.Path.{◌≡◌, refl, ap, ap₂, sym, ◌∙◌, fun_ext, subst}
 use mathlib.Core.Logic.{◌↔◌}
 use mathlib.Core.Bool.{Bool, true, false, not}
-use mathlib.Core.List.{List, [], ◌∷◌, ◌++◌}
+use mathlib.Core.List.{List, [], ◌∷◌}
 use lib.Dec.{T, leb, nleb→lt}
 use lib.ListN.{length}
 use native.Mathlib.Omega.{arith}
-use Rattle.interpreter.specs.Trace.{
-  Note,
-  again,
-  deep,
-  long,
-  End,
-  done,
-  missing,
-  refused,
-  halted,
-  unfinished,
-  Count,
-  count,
-  plus,
-  Trace,
-  tr,
-  Mode,
-  strict,
-  plain,
-  Prog,
-  write,
-  miss,
-  refuse,
-  limit,
-  call,
-  seq,
-  after,
-  ask,
-  catch,
-  prefix,
-  limited,
-  then,
-  asked,
-  caught,
-  Finished,
-  exec,
-  Key,
-  Held,
-  held,
-  Entry,
-  through,
-  opens,
-  afresh,
-  is_open,
-  opening,
-  run,
-  need,
-  walk,
-}
+use Rattle.interpreter.specs.Trace.{Note, again, deep, long, End, done, missing, refused, halted, unfinished, Count, count, Trace, tr, Mode, strict, plain, Prog, write, miss, refuse, limit, call, seq, after, ask, catch, prefix, limited, then, asked, caught, Finished, exec, Key, Held, held, Entry, through, opens, afresh, is_open, opening, run, need, walk}
 
 module _ {R : Type 0} where
   -- (i) Simulation. The strict trace beside the plain one: the same and nothing noted, or stopped at a mark and something noted.

@@ -1,6 +1,6 @@
 -- Depth and steps. A reading that has ended took up some number of indexes, and so deep it has ended already: ending at some depth and ending after some
 -- number of steps are the same. Assumes nothing.
-use Prim.Native.Nat.{ℕ, zero, suc, ◌+◌, ◌≤◌, ◌<◌}
+use Prim.Native.Nat.{ℕ, zero, suc, ◌≤◌}
 use native.Mathlib.Nat.{le_refl}
 use native.Mathlib.Omega.{arith}
 use mathlib.Core.Path.{◌≡◌, refl, ap, sym, ◌∙◌, subst}
@@ -9,52 +9,7 @@ use mathlib.Core.Bool.{Bool, true, false}
 use mathlib.Core.List.{List, [], ◌∷◌}
 use lib.Dec.{leb}
 use lib.ListN.{length}
-use Rattle.interpreter.specs.Trace.{
-  Note,
-  again,
-  deep,
-  long,
-  End,
-  done,
-  missing,
-  refused,
-  halted,
-  unfinished,
-  Count,
-  count,
-  Trace,
-  tr,
-  Mode,
-  strict,
-  plain,
-  Prog,
-  write,
-  miss,
-  refuse,
-  limit,
-  call,
-  seq,
-  after,
-  ask,
-  catch,
-  prefix,
-  limited,
-  then,
-  asked,
-  caught,
-  Finished,
-  exec,
-  Key,
-  Held,
-  held,
-  Entry,
-  through,
-  opens,
-  afresh,
-  is_open,
-  opening,
-  run,
-}
+use Rattle.interpreter.specs.Trace.{Note, again, deep, long, done, missing, refused, halted, unfinished, Count, count, Trace, tr, Mode, strict, plain, Prog, write, miss, refuse, limit, call, seq, after, ask, catch, prefix, limited, then, asked, caught, Finished, exec, Key, Held, held, Entry, through, opens, afresh, is_open, opening, run}
 
 module _ {R : Type 0} where
   abbrev pub taken_of : Trace R → ℕ

@@ -94,7 +94,7 @@ module _ {R Task : Type 0} (P : List ℕ → Type 0) (Q : Task → Type 0) where
     holds-limited : (m : Mode) (b : Bool) (x : Note) (t : Trace R) → Holds t → Holds (limited m b x t)
     holds-limited m false x t h = h
     holds-limited strict true x t h = none
-    holds-limited plain true x t h = holds-prefix [] _ (count 0 0) t none h
+    holds-limited plain true x t h = holds-prefix [] (x ∷ []) (count 0 0) t none h
 
     says-exec : (m : Mode) (r : Task → Trace R) → ((t : Task) → Q t → Holds (r t)) → (p : Prog R Task) → Says p → Holds (exec m r p)
     unfolding exec Says

@@ -1,5 +1,5 @@
 -- The primitive types (document 01, "Streams and records"): the 43 kinds of cvinfo.h, with the names and byte sizes of 000.
-use Rattle.std.specs.Prelude.{ℕ, suc, ◌+◌, ◌-◌, ◌*◌, ◌/◌, ◌%◌, Bool, true, false, List, [], ◌∷◌, ◌++◌, map, length, replicate, get_or, eqb}
+use Rattle.std.specs.Prelude.{ℕ, suc, ◌+◌, ◌-◌, ◌*◌, ◌/◌, ◌%◌, true, false, List, [], ◌∷◌, ◌++◌, map, length, replicate, get_or, eqb}
 use Prim.Native.String.{String}
 use Rattle.wire.specs.Field.{pick, number}
 use Rattle.wire.specs.Text.{bytes}

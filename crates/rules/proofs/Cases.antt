@@ -22,7 +22,7 @@ use Rattle.codeview.specs.Record.{bit, names, entries, pointer_mode, containing,
 use Rattle.codeview.specs.Read.{primitive_of, type_from}
 use Rattle.interpreter.specs.Trace.{exec, is_open, opening, run, need, walk, held}
 use Rattle.rules.specs.Flags.{settings, sized, flagged}
-use Rattle.rules.specs.Record.{Attributes, Method, class, Record, pointer, modifier, procedure, method, arguments, array, primitive, named, IdRecord, function, Read, good, bad, Table, name_at, shown_at, numbers_at, match_name, type_contents, type_as_read, table_of}
+use Rattle.rules.specs.Record.{Attributes, class, Record, pointer, modifier, procedure, method, arguments, array, primitive, named, IdRecord, function, Read, good, bad, Table, name_at, shown_at, numbers_at, match_name, type_contents, type_as_read, table_of}
 use Rattle.rules.specs.Text.{digit, numeral, hex, decimal, missing_mark, unimplemented_mark, function_name, primitive_name, primitive_size, primitive_text, worded, class_text, over_pointee, sign, levels, ends_signed, bracket, brackets, same_bytes}
 use Rattle.rules.specs.Task.{Task, by_itself, size_of, id_of, separated, unread, marked, value_of}
 use Rattle.rules.specs.Types.{comma, result, procedure_result, returned, method_arguments, procedure_arguments, named_text, type_text, alone}
@@ -31,7 +31,7 @@ use Rattle.rules.specs.Methods.{method_text, this_pointer, method_list, static_m
 use Rattle.rules.specs.Arrays.{base_text, element_text}
 use Rattle.rules.specs.Sizes.{full_layout, full_named, full_or, full_size, layout_size, named_size, record_size, size_step}
 use Rattle.rules.specs.Ids.{scope_text, function_id_text, id_text, id_alone, function_text}
-use Rattle.rules.specs.Opening.{after_read, same_index, rank, entry_of, body, walked, plainly}
+use Rattle.rules.specs.Opening.{after_read, same_index, rank, entry_of, body, walked}
 use Rattle.rules.specs.Call.{Outcome, text, stopped, answer, within, whole, over_types, function_reading, type_reading as typeReading₀, size_reading, size_outcome, size_answer, Size, unsized}
 use Rattle.rules.specs.Call as calls
 use Rattle.rules.specs.Measure.{Measure, measured, unmeasured, measure_of, function_measure, type_measure}

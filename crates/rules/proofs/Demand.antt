@@ -1,6 +1,6 @@
 -- Demand 3, for the function, the id and the type call: a text exactly where the plain reading ends in it, nothing was met again, no limit was passed and
 -- the buffer is long enough. With it: one text at the most, none where the reading never ends, and every walk ends. Assumes nothing.
-use Prim.Native.Nat.{ℕ, zero, suc, ◌+◌, ◌≤◌, ◌<◌}
+use Prim.Native.Nat.{ℕ, ◌≤◌}
 use native.Mathlib.Omega.{arith}
 use mathlib.Core.Path.{◌≡◌, refl, sym, ◌∙◌, ap, subst}
 use mathlib.Core.Logic.{◌↔◌, ◌⊎◌, inl, inr}
@@ -17,8 +17,8 @@ use Rattle.streams.specs.declared.refusal.Refusal.TheVariants as refusal₀
 use Rattle.streams.specs.declared.stream.Stream.{Stream}
 use Rattle.streams.specs.declared.stream.StreamCheck.{StreamCheck}
 use Rattle.streams.specs.declared.stream.StreamCheck.TheVariants.{Good, Refused}
-use Rattle.interpreter.specs.Trace.{Note, again, deep, long, End, done, missing, refused, halted, unfinished, Count, count, Trace, tr, Finished, held, strict, plain}
-use Rattle.interpreter.proofs.Laws.{Stopped, unnoted, exactly, walk-beside, walk_ends, one_end}
+use Rattle.interpreter.specs.Trace.{Note, again, deep, long, End, done, missing, refused, halted, unfinished, Count, count, Trace, tr, Finished, held, plain}
+use Rattle.interpreter.proofs.Laws.{unnoted, exactly, walk-beside, walk_ends, one_end}
 use Rattle.interpreter.proofs.Steps.{by-steps}
 use Rattle.rules.specs.Flags.{Settings, settings, sized, flagged}
 use Rattle.rules.specs.Record.{Table, table_of}

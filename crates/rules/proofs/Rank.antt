@@ -2,20 +2,20 @@
 use Prim.Native.Nat.{ℕ, zero, suc, ◌+◌, ◌-◌, ◌<◌}
 use native.Mathlib.Omega.{arith}
 use mathlib.Core.Path.{◌≡◌, refl}
-use mathlib.Core.Bool.{Bool, true, false, ◌||◌, not}
+use mathlib.Core.Bool.{Bool, true, false, ◌||◌}
 use mathlib.Core.List.{List, [], ◌∷◌}
-use lib.Dec.{T, leb, eqb, nleb→lt}
+use lib.Dec.{eqb, nleb→lt}
 use lib.ListN.{length}
 use Rattle.wire.specs.Field.{pick}
 use Rattle.streams.specs.declared.refusal.Refusal.{Refusal}
 use Rattle.streams.specs.Refusal.{number_of, detail_of}
-use Rattle.interpreter.specs.Trace.{Entry, through, opens, afresh, Key, key, Prog, write, refuse, miss, call}
+use Rattle.interpreter.specs.Trace.{through, opens, afresh, Key, key, write, refuse, miss, call}
 use Rattle.interpreter.proofs.Laws.{Calls, Ranked}
 use Rattle.rules.specs.Flags.{Settings}
-use Rattle.rules.specs.Record.{Method, Named, class, union, enumeration, enumerate, kind_only, Record, pointer, modifier, procedure, method, arguments, array, primitive, named, Read, good, bad, IdRecord, Table}
+use Rattle.rules.specs.Record.{Named, class, union, enumeration, enumerate, kind_only, Record, pointer, modifier, procedure, method, arguments, array, primitive, named, Read, good, bad, IdRecord, Table}
 use Rattle.rules.specs.Text.{missing_mark, unimplemented_mark}
 use Rattle.rules.specs.Task.{separated, Task, by_itself, function_of, target, target_of_modifier, modified, list_of, element, size_of, id_of, function_id, member_id, Rule, inside, unless, unread, marked}
-use Rattle.rules.specs.Types.{result, procedure_result, returned, method_arguments, procedure_arguments, argument_entries, type_text, alone}
+use Rattle.rules.specs.Types.{result, procedure_result, returned, method_arguments, argument_entries, type_text, alone}
 use Rattle.rules.specs.Arrays.{base_text, element_text}
 use Rattle.rules.specs.Sizes.{named_size, record_size, size_step}
 use Rattle.rules.specs.Ids.{id_alone}

@@ -29,7 +29,7 @@ use Rattle.codeview.specs.declared.record.IdRead.{IdRead}
 use Rattle.codeview.specs.declared.record.IdRead.TheVariants as id_read
 use Rattle.utf8.specs.Utf8.{WellFormed, empty}
 use Rattle.utf8.proofs.Shown.{shown-well, all_ascii, well-append, well-ascii}
-use Rattle.interpreter.specs.Trace.{done, missing, refused, halted, again, deep, long, unfinished, End, Trace, tr, write, call, held, need, walk, strict}
+use Rattle.interpreter.specs.Trace.{done, missing, refused, halted, again, deep, long, unfinished, End, Trace, tr, write, held, need, walk, strict}
 use Rattle.interpreter.proofs.Written.{Says, Holds, written}
 use Rattle.rules.specs.Flags.{Settings, settings, sized, flagged}
 use Rattle.rules.specs.Record.{Method, Named, class, union, enumeration, enumerate, kind_only, Record, pointer, modifier, procedure, method, arguments, array, primitive, named, IdRecord, function, member_function, strings, string, id_kind_only, Read, good, bad, Table, name_at, shown_at, type_contents, id_contents, type_as_read, id_as_read, table_of}

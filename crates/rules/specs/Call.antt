@@ -1,5 +1,5 @@
 -- The calls (document 01, "What a call answers"): the checks, the streams, the walk, then the buffer.
-use Rattle.std.specs.Prelude.{ℕ, ◌+◌, ◌≤◌, Bool, true, false, List, [], ◌∷◌, ◌++◌, ◌↔◌, ◌≡◌, leb, length, drop, replicate}
+use Rattle.std.specs.Prelude.{ℕ, ◌≤◌, Bool, true, false, List, [], ◌∷◌, ◌++◌, ◌↔◌, ◌≡◌, leb, length, drop, replicate}
 use Rattle.wire.specs.Field.{pick}
 use Rattle.streams.specs.Refusal.{number_of, detail_of}
 use Rattle.streams.specs.Stream.{none, checked}

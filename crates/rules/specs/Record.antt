@@ -1,12 +1,11 @@
 -- Records as the rules see them (document 01, "Streams and records"): what they say, and no place of a stream. The streams are put in here, once.
-use Rattle.std.specs.Prelude.{ℕ, zero, suc, ◌+◌, Bool, List, [], ◌∷◌, length, take, drop}
+use Rattle.std.specs.Prelude.{ℕ, zero, suc, ◌+◌, Bool, List, [], ◌∷◌, take, drop}
 use Rattle.wire.specs.Field.{number}
 use Rattle.wire.specs.declared.name.Name.{Name}
 use Rattle.utf8.specs.Utf8.{shown}
 use Rattle.streams.specs.declared.refusal.Refusal.{Refusal}
 use Rattle.streams.specs.declared.stream.Stream.{Stream}
 use Rattle.codeview.specs.Read.{read_type, read_id}
-use Rattle.codeview.specs.declared.record.Entries.{Entries}
 use Rattle.codeview.specs.declared.record.PointerMode.{PointerMode}
 use Rattle.codeview.specs.declared.record.ClassKind.{ClassKind}
 use Rattle.codeview.specs.declared.record.UniqueName.{UniqueName}

@@ -4,7 +4,6 @@ use Rattle.wire.specs.Field.{number}
 use lib.ListN.{take}
 use Rattle.primitives.specs.Primitive.{primitives, empty, words_of}
 use Rattle.primitives.proofs.Table.{early-empty}
-use borrow.Author.Rules.{rules}
 use Rattle.primitives.proofs.early_words.Goals as goal
 
 pub returns-in-0 : goal.returns-in-0

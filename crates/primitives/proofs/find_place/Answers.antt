@@ -1,6 +1,5 @@
 -- The place is what is below bit 6.
 use Rattle.primitives.proofs.Table.{place-of, seek-below}
-use borrow.Author.Rules.{rules}
 use Rattle.primitives.proofs.find_place.Goals as goal
 
 pub returns : goal.returns

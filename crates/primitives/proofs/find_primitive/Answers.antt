@@ -1,6 +1,5 @@
 -- The kind at the place of the code, and whether that is a place of the table.
 use Rattle.primitives.proofs.Table.{found_at}
-use borrow.Author.Rules.{rules}
 use Rattle.primitives.proofs.find_primitive.Goals as goal
 
 pub returns : goal.returns

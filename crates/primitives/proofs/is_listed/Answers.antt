@@ -1,5 +1,4 @@
 -- A code is listed where its place is one of the table.
-use borrow.Author.Rules.{rules}
 use Rattle.primitives.proofs.Table.{listed_at}
 use Rattle.primitives.proofs.is_listed.Goals as goal
 

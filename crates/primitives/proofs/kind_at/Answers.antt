@@ -1,7 +1,6 @@
 -- The code's table is the definition's.
 use mathlib.Core.Path.{refl}
 use Rattle.primitives.specs.Primitive.{primitives}
-use borrow.Author.Rules.{rules}
 use Rattle.primitives.proofs.kind_at.Goals as goal
 
 pub kind_in-requires : goal.kind_in-requires

@@ -2,7 +2,6 @@
 use native.Mathlib.Omega.{arith}
 use Rattle.primitives.specs.Primitive.{seek}
 use Rattle.primitives.proofs.Table.{name-is, len_of, len-at, seek-below}
-use borrow.Author.Rules.{rules}
 use Rattle.primitives.proofs.kind_name.Goals as goal
 
 pub returns : goal.returns

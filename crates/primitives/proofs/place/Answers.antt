@@ -1,7 +1,6 @@
 -- The codes are those of the table, in its order, and the others.
 use mathlib.Core.Path.{refl}
 use Rattle.primitives.specs.Primitive.{primitives, seek}
-use borrow.Author.Rules.{rules}
 use Rattle.primitives.proofs.place.Goals as goal
 
 pub search-requires : goal.search-requires

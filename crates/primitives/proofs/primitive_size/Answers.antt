@@ -1,5 +1,4 @@
 -- The size of the kind at the place of the code.
-use borrow.Author.Rules.{rules}
 use Rattle.primitives.proofs.Table.{size-at}
 use Rattle.primitives.proofs.primitive_size.Goals as goal
 

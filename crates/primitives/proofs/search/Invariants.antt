@@ -1,13 +1,8 @@
 -- The invariant: the place among all is so many on from here. The measure is what is left of them.
-use Prim.Native.Nat.{ℕ, ◌+◌, ◌≤◌, ◌-◌, ◌<◌}
-use mathlib.Core.Path.{◌≡◌, refl}
+use Prim.Native.Nat.{◌+◌, ◌≤◌, ◌-◌}
+use mathlib.Core.Path.{◌≡◌}
 use lib.ListN.{length, drop}
-use borrow.Author.Rules.{rules}
-use native.Mathlib.Omega.{arith}
 use Rattle.primitives.specs.Primitive.{place_of}
-use Rattle.primitives.proofs.Table.{place_here, place-later, place_end}
-use Rattle.primitives.proofs.search.Reads as reads
-use Rattle.primitives.proofs.search.Lts as lts
 use Rattle.primitives.proofs.search.Given as goal
 
 abbrev pub invariant-loop-i : goal.invariant-loop-i

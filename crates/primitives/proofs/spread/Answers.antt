@@ -1,6 +1,5 @@
 -- Byte by byte.
 use Rattle.primitives.specs.Primitive.{spread_of}
-use borrow.Author.Rules.{rules}
 use Rattle.primitives.proofs.spread.Goals as goal
 
 pub returns : goal.returns

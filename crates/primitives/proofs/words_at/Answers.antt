@@ -3,7 +3,6 @@ use mathlib.Core.Path.{ap, ◌∙◌}
 use Rattle.wire.specs.Field.{number}
 use Rattle.primitives.specs.Primitive.{primitives, empty, words_of}
 use Rattle.primitives.proofs.Table.{early-same, forty-three}
-use borrow.Author.Rules.{rules}
 use Rattle.primitives.proofs.words_at.Goals as goal
 
 pub returns-in-22 : goal.returns-in-22

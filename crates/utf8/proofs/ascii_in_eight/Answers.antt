@@ -2,7 +2,6 @@
 use native.Mathlib.Nat.{add-zero}
 use mathlib.Core.Path.{refl}
 use Rattle.utf8.specs.Parts.{ascii_at}
-use borrow.Author.Rules.{rules}
 use Rattle.utf8.proofs.ascii_in_eight.Goals as goal
 
 pub returns : goal.returns

@@ -1,7 +1,5 @@
-use Prim.Native.Nat.{◌≤◌, ◌-◌}
-use Rattle.utf8.proofs.Laws.{Counted, count-start, count-end, count-all, count-out, count-more}
+use Rattle.utf8.proofs.Laws.{count-start, count-end, count-all, count-out, count-more}
 use native.Mathlib.Omega.{arith}
-use borrow.Author.Rules.{rules}
 use Rattle.utf8.proofs.following.Goals as goal
 
 pub overflow_sub-end : goal.overflow_sub-end

@@ -1,8 +1,6 @@
 -- The invariant: n bytes fit, and those behind them are counted from the range that holds now. The measure is how many are still asked for.
 use Prim.Native.Nat.{◌≤◌, ◌-◌}
-use Rattle.utf8.proofs.Laws.{Counted, count-start, count-end, count-all, count-out, count-more}
-use native.Mathlib.Omega.{arith}
-use borrow.Author.Rules.{rules}
+use Rattle.utf8.proofs.Laws.{Counted}
 use Rattle.utf8.proofs.following.Given as goal
 
 abbrev pub invariant-loop-n : goal.invariant-loop-n

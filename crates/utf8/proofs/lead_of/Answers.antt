@@ -1,6 +1,5 @@
 -- Each test leads to a row of the table, or to none.
 use Rattle.utf8.proofs.Laws.{lead-tail, lead-two, lead-e0, lead-ed, lead-three, lead-f0, lead-four, lead-f4, lead-none}
-use borrow.Author.Rules.{rules}
 use Rattle.utf8.proofs.lead_of.Goals as goal
 
 pub returns-then-b-lt194 : goal.returns-then-b-lt194

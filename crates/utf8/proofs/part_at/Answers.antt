@@ -2,7 +2,6 @@
 use Prim.Native.Nat.{◌+◌}
 use Rattle.utf8.proofs.Laws.{fit-le, part-ascii, part-lead}
 use native.Mathlib.Omega.{arith}
-use borrow.Author.Rules.{rules}
 use Rattle.utf8.proofs.part_at.Goals as goal
 
 pub returns-then-b-lt128 : goal.returns-then-b-lt128

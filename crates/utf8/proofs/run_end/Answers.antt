@@ -1,11 +1,6 @@
-use Prim.Native.Nat.{◌+◌, ◌≤◌, ◌-◌}
-use mathlib.Core.Path.{◌≡◌, refl, sym, ◌∙◌}
-use lib.ListN.{length, drop}
 use borrow.Author.Tests.{not-true, not-false}
-use Rattle.utf8.specs.Parts.{run}
 use Rattle.utf8.proofs.Laws.{part-inside, run-stopped, run-stepped, run-over}
 use native.Mathlib.Omega.{arith}
-use borrow.Author.Rules.{rules}
 use Rattle.utf8.proofs.run_end.Goals as goal
 
 pub loop-at-init : goal.loop-at-init

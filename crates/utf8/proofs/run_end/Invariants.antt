@@ -1,12 +1,8 @@
 -- The invariant: a run from here ends where the one that was asked for does. The measure is what is left of the slice.
 use Prim.Native.Nat.{◌+◌, ◌≤◌, ◌-◌}
-use mathlib.Core.Path.{◌≡◌, refl, sym, ◌∙◌}
+use mathlib.Core.Path.{◌≡◌}
 use lib.ListN.{length, drop}
-use borrow.Author.Tests.{not-true, not-false}
 use Rattle.utf8.specs.Parts.{run}
-use Rattle.utf8.proofs.Laws.{part-inside, run-stopped, run-stepped, run-over}
-use native.Mathlib.Omega.{arith}
-use borrow.Author.Rules.{rules}
 use Rattle.utf8.proofs.run_end.Given as goal
 
 abbrev pub invariant-loop-at : goal.invariant-loop-at

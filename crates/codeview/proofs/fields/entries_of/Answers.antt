@@ -1,8 +1,7 @@
 -- The count, then room for so many.
 use borrow.Author.Tests.{le-leb, lt-leb}
-use Rattle.wire.proofs.Laws.{within32, read32, unread32}
+use Rattle.wire.proofs.Laws.{read32, unread32}
 use Rattle.codeview.specs.Record.{entries}
-use borrow.Author.Rules.{rules}
 use Rattle.codeview.proofs.fields.entries_of.Goals as goal
 
 pub returns-in_default : goal.returns-in_default

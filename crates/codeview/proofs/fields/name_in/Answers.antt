@@ -1,7 +1,6 @@
 -- The name, moved to its place in the stream.
 use Rattle.wire.proofs.Laws.{read_name, unread_name, within_name}
 use native.Mathlib.Omega.{arith}
-use borrow.Author.Rules.{rules}
 use Rattle.codeview.proofs.fields.name_in.Goals as goal
 
 pub returns-in_default : goal.returns-in_default

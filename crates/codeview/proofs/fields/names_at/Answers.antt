@@ -3,7 +3,6 @@ use mathlib.Core.Path.{sym, ◌∙◌}
 use Rattle.codeview.proofs.Answers.{goes_place, is_place}
 use Rattle.codeview.specs.Record.{names, bit}
 use native.Mathlib.Omega.{arith}
-use borrow.Author.Rules.{rules}
 use Rattle.codeview.proofs.fields.names_at.Goals as goal
 
 pub returns-in_default : goal.returns-in_default

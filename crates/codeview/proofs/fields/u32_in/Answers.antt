@@ -1,7 +1,6 @@
 -- The field is inside, so that it is the number; what is said of one outside is not met.
 use mathlib.Core.Path.{refl, sym, ◌∙◌}
 use Rattle.wire.proofs.Laws.{read32, unread32, field-long}
-use borrow.Author.Rules.{rules}
 use Rattle.codeview.proofs.fields.u32_in.Goals as goal
 
 pub returns-in-Value : goal.returns-in-Value

@@ -1,7 +1,6 @@
 -- By the kind: each listed kind's own reading, and no other.
 use borrow.Author.Tests.{ne_eqb}
 use Rattle.codeview.specs.IdRecord.{id_data_of}
-use borrow.Author.Rules.{rules}
 use Rattle.codeview.proofs.ids.decode_id.Goals as goal
 
 pub returns-in-5633 : goal.returns-in-5633

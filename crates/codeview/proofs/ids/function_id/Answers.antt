@@ -1,7 +1,6 @@
 -- By the parts that both kinds of function ids have.
 use Rattle.codeview.proofs.Answers.{goes_parts}
 use Rattle.codeview.specs.IdRecord.{function_id_of}
-use borrow.Author.Rules.{rules}
 use Rattle.codeview.proofs.ids.function_id.Goals as goal
 
 pub returns-in_default : goal.returns-in_default

@@ -1,7 +1,6 @@
 -- The fixed part is inside or the record is short; then each return is the case of the definition where the reading stopped, or the whole record.
 use Rattle.codeview.proofs.Answers.{inside, short, no-matter, goes_place, is_place}
 use Rattle.codeview.specs.IdRecord.{function_parts}
-use borrow.Author.Rules.{rules}
 use Rattle.codeview.proofs.ids.function_parts.Goals as goal
 
 pub returns-then-b-lt8 : goal.returns-then-b-lt8

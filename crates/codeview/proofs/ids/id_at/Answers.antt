@@ -4,7 +4,6 @@ use Rattle.streams.specs.Stream.{part}
 use Rattle.codeview.specs.Read.{id_from}
 use Rattle.streams.proofs.Walk.{look-by, look-within, part_end}
 use native.Mathlib.Omega.{arith}
-use borrow.Author.Rules.{rules}
 use Rattle.codeview.proofs.ids.id_at.Goals as goal
 
 pub slice_bounds-decode_id-count : goal.slice_bounds-decode_id-count
@@ -16,7 +15,6 @@ slice_bounds-decode_id-start c = omega (arith, look-within _ _ _ _ c.look_up_in.
 pub slice_bounds-decode_id-end : goal.slice_bounds-decode_id-end
 slice_bounds-decode_id-end c = omega (arith, look-within _ _ _ _ c.look_up_in.ensures _ _ _ c.in-Record.is)
 
--- TODO well-formed
 pub decode_id-requires : goal.decode_id-requires
 decode_id-requires c = omega (arith, part_end c.args.s.now c.in-Record.start c.in-Record.end (look-within _ _ _ _ c.look_up_in.ensures _ _ _ c.in-Record.is), look-within _ _ _ _ c.look_up_in.ensures _ _ _ c.in-Record.is, c.well_formed.0)
 

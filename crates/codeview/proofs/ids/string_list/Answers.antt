@@ -1,7 +1,6 @@
 -- The list, whole or cut.
 use Rattle.codeview.proofs.Answers.{goes_entries}
 use Rattle.codeview.specs.IdRecord.{string_list_of}
-use borrow.Author.Rules.{rules}
 use Rattle.codeview.proofs.ids.string_list.Goals as goal
 
 pub returns-in_default : goal.returns-in_default

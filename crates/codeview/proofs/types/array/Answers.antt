@@ -3,7 +3,6 @@ use borrow.Author.Tests.{le-leb, lt-leb}
 use Rattle.wire.proofs.Laws.{read_leaf, unread_leaf}
 use Rattle.codeview.proofs.Answers.{inside, short, no-matter, goes_place, is_place}
 use Rattle.codeview.specs.Record.{array_of}
-use borrow.Author.Rules.{rules}
 use Rattle.codeview.proofs.types.array.Goals as goal
 
 pub returns-then-b-lt8 : goal.returns-then-b-lt8

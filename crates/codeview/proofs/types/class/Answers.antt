@@ -2,7 +2,6 @@
 use Rattle.wire.proofs.Laws.{read_leaf, unread_leaf}
 use Rattle.codeview.proofs.Answers.{inside, short, no-matter, goes_names}
 use Rattle.codeview.specs.Record.{class_of, bit}
-use borrow.Author.Rules.{rules}
 use Rattle.codeview.proofs.types.class.Goals as goal
 
 pub returns-then-b-lt16 : goal.returns-then-b-lt16

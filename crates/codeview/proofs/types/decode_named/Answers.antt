@@ -1,7 +1,6 @@
 -- By the kind: each listed kind's own reading, and no other.
 use borrow.Author.Tests.{ne_eqb}
 use Rattle.codeview.specs.Record.{type_of}
-use borrow.Author.Rules.{rules}
 use Rattle.codeview.proofs.types.decode_named.Goals as goal
 
 pub returns-in-5378 : goal.returns-in-5378

@@ -2,7 +2,6 @@
 use Rattle.wire.proofs.Laws.{read_leaf, unread_leaf}
 use Rattle.codeview.proofs.Answers.{inside, short, goes_place, is_place}
 use Rattle.codeview.specs.Record.{enumerate_of}
-use borrow.Author.Rules.{rules}
 use Rattle.codeview.proofs.types.enumerate.Goals as goal
 
 pub returns-then-b-lt2 : goal.returns-then-b-lt2

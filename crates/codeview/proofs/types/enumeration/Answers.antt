@@ -1,7 +1,6 @@
 -- The fixed part is inside or the record is short; then each return is the case of the definition where the reading stopped, or the whole record.
 use Rattle.codeview.proofs.Answers.{inside, short, no-matter, goes_names}
 use Rattle.codeview.specs.Record.{enumeration_of, bit}
-use borrow.Author.Rules.{rules}
 use Rattle.codeview.proofs.types.enumeration.Goals as goal
 
 pub returns-then-b-lt12 : goal.returns-then-b-lt12

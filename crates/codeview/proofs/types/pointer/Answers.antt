@@ -3,7 +3,6 @@ use Rattle.codeview.proofs.Answers.{inside, short, no-matter}
 use Rattle.codeview.proofs.KindLaws.{mode-none, mode-member, mode-plain}
 use Rattle.codeview.specs.Record.{pointer_of, containing}
 use Rattle.codeview.specs.Kinds.{pointer_to}
-use borrow.Author.Rules.{rules}
 use Rattle.codeview.proofs.types.pointer.Goals as goal
 
 pub returns-then-b-lt8 : goal.returns-then-b-lt8

@@ -1,6 +1,5 @@
 -- Each mode that is listed; any other is answered as the last.
 use borrow.Author.Tests.{ne_eqb}
-use Rattle.wire.specs.Field.{pick}
 use Rattle.codeview.specs.Record.{pointer_mode}
 use Rattle.codeview.proofs.KindLaws.{last-mode}
 use Rattle.codeview.proofs.types.pointer_mode.Goals as goal

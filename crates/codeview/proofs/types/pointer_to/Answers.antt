@@ -1,7 +1,6 @@
 -- The fields as they are read.
 use Rattle.codeview.specs.Record.{bit}
 use Rattle.codeview.specs.Kinds.{pointer_to}
-use borrow.Author.Rules.{rules}
 use Rattle.codeview.proofs.types.pointer_to.Goals as goal
 
 pub returns : goal.returns

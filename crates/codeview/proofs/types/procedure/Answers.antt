@@ -1,7 +1,6 @@
 -- The fixed part is inside or the record is short; then each return is the case of the definition where the reading stopped, or the whole record.
 use Rattle.codeview.proofs.Answers.{inside, short, no-matter}
 use Rattle.codeview.specs.Record.{procedure_of, bit}
-use borrow.Author.Rules.{rules}
 use Rattle.codeview.proofs.types.procedure.Goals as goal
 
 pub returns-then-b-lt12 : goal.returns-then-b-lt12

@@ -6,7 +6,6 @@ use Rattle.codeview.specs.Read.{type_from}
 use Rattle.codeview.proofs.KindLaws.{primitive-if}
 use Rattle.streams.proofs.Walk.{look-by, look-within, part_end}
 use native.Mathlib.Omega.{arith}
-use borrow.Author.Rules.{rules}
 use Rattle.codeview.proofs.types.type_at.Goals as goal
 
 pub returns-then-is_primitive : goal.returns-then-is_primitive
@@ -42,7 +41,6 @@ pub returns-in-4105 : goal.returns-in-4105
 unfolding type_from type_of part
 returns-in-4105 c = rw (le-ltb _ _ c.if-i-lt4096.false, look-by _ _ _ _ c.look_up_in.ensures c.in-Record.is, c.in-4105.is, c.member_function.ensures)
 
--- TODO well-formed
 pub argument_list-requires : goal.argument_list-requires
 argument_list-requires c = omega (arith, part_end c.args.s.now c.in-Record.start c.in-Record.end (look-within _ _ _ _ c.look_up_in.ensures _ _ _ c.in-Record.is), look-within _ _ _ _ c.look_up_in.ensures _ _ _ c.in-Record.is, c.well_formed.0)
 
@@ -50,9 +48,8 @@ pub returns-in-4609 : goal.returns-in-4609
 unfolding type_from type_of part
 returns-in-4609 c = rw (le-ltb _ _ c.if-i-lt4096.false, look-by _ _ _ _ c.look_up_in.ensures c.in-Record.is, c.in-4609.is, c.argument_list.ensures)
 
--- TODO well-formed
 pub decode_named-t-requires : goal.decode_named-t-requires
-decode_named-t-requires c = (omega (arith, part_end c.args.s.now c.in-Record.start c.in-Record.end (look-within _ _ _ _ c.look_up_in.ensures _ _ _ c.in-Record.is), look-within _ _ _ _ c.look_up_in.ensures _ _ _ c.in-Record.is, c.well_formed.0), record { modifier = c.in_default.rest.0.0.0.1; pointer = c.if-kind-eq4098.false; procedure = c.in_default.rest.0.0.1; method = c.in_default.rest.0.1; arguments = c.in_default.rest.1 })
+decode_named-t-requires c = (omega (arith, part_end c.args.s.now c.in-Record.start c.in-Record.end (look-within _ _ _ _ c.look_up_in.ensures _ _ _ c.in-Record.is), look-within _ _ _ _ c.look_up_in.ensures _ _ _ c.in-Record.is, c.well_formed.0), record { modifier = c.in_default.in_default-own.rest.0.0.0.1; pointer = c.if-kind-eq4098.false; procedure = c.in_default.in_default-own.rest.0.0.1; method = c.in_default.in_default-own.rest.0.1; arguments = c.in_default.in_default-own.rest.1 })
 
 pub returns-in_default : goal.returns-in_default
 unfolding type_from part

@@ -2,7 +2,6 @@
 use Rattle.wire.proofs.Laws.{read_leaf, unread_leaf}
 use Rattle.codeview.proofs.Answers.{inside, short, no-matter, goes_names}
 use Rattle.codeview.specs.Record.{union_of, bit}
-use borrow.Author.Rules.{rules}
 use Rattle.codeview.proofs.types.union_type.Goals as goal
 
 pub returns-then-b-lt8 : goal.returns-then-b-lt8
