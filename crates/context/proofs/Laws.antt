@@ -1,8 +1,8 @@
 -- The laws of the stacks: one step of a search, a push, a change of the newest, and when a stack is full. Assumes nothing.
 use Prim.Native.Nat.{ℕ, zero, suc, ◌+◌, ◌-◌, ◌*◌, ◌/◌, ◌%◌, ◌^◌, ◌<◌, ◌≤◌}
 use mathlib.Core.Path.{◌≡◌, refl, ap, sym, ◌∙◌}
-use mathlib.Core.List.{List, [], ◌∷◌, map}
-use mathlib.Core.Bool.{Bool, true, false, not, ◌||◌}
+use mathlib.Core.List.{List, ◌∷◌, map}
+use mathlib.Core.Bool.{Bool, true, false, not}
 use lib.ListN.{length, set, drop, get_or, length-set, length-drop, length-map, drop_of_length-le}
 use lib.Seq.{drop-cons, drop-set-lt, get_or-set_same}
 use lib.Bits.{bit_and, and_high}
@@ -13,7 +13,7 @@ use native.Mathlib.Decide.{dec_lt}
 use native.Mathlib.Numerals.{add-one}
 use native.Mathlib.Omega.{arith}
 use borrow.Author.Tests.{eq-eqb, ne_eqb, lt-leb, le-leb, lt-ltb}
-use Rattle.interpreter.specs.Trace.{Key, key}
+use Rattle.interpreter.specs.Trace.{key}
 use Rattle.rules.specs.Text.{Level, level, over_pointee}
 use Rattle.codeview.specs.Record.{bit}
 use Rattle.codeview.specs.declared.record.PointerMode.{PointerMode}
@@ -22,11 +22,11 @@ use Rattle.context.specs.declared.levels.Dimensions.{Dimensions}
 use Rattle.context.specs.declared.levels.PtrAttributes.{PtrAttributes}
 use Rattle.codeview.specs.declared.record.PointerMode.TheVariants as mode
 use Rattle.streams.specs.declared.refusal.Refusal.TheVariants.{CircularTypeDefinition, TooManyOpen}
-use Rattle.pen.specs.Page.{read_pen, idle, gone, refused_pen, opened_pen}
+use Rattle.pen.specs.Page.{read_pen, idle, refused_pen, opened_pen}
 use Rattle.pen.proofs.Laws.{refused-alive}
 use Rattle.pen.specs.declared.Pen.{Pen}
 use Rattle.context.specs.Context.{intersects, key_of, keys_of, has_index, flags_byte, mode_byte, mode_at, level_byte, level_of, level_at, over_levels, sizes_of, pushed_dimension}
-use Rattle.context.specs.Opening.{way_of, Leaves, leaves, opens_to}
+use Rattle.context.specs.Opening.{way_of, leaves, opens_to}
 use Rattle.context.specs.declared.seen.Way.{Way}
 
 -- a flag that is one bit

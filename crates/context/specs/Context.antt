@@ -1,5 +1,5 @@
 -- What the values that are passed down stand for: settings, open keys, pointer levels, array levels.
-use Rattle.std.specs.Prelude.{ℕ, ◌+◌, ◌-◌, ◌<◌, ◌/◌, ◌%◌, ◌≡◌, Bool, true, false, not, ◌||◌, List, [], ◌∷◌, map, drop, get_or, length, replicate, set, eqb, leb, ltb}
+use Rattle.std.specs.Prelude.{ℕ, ◌+◌, ◌-◌, ◌/◌, ◌%◌, ◌≡◌, Bool, true, false, not, ◌||◌, List, [], ◌∷◌, map, drop, get_or, replicate, set, eqb, ltb}
 use Rattle.std.specs.Int.Bits.{bit_and}
 use Rattle.wire.specs.Field.{pick}
 use Rattle.streams.specs.declared.refusal.Refusal.TheVariants.{UnknownFlags}
@@ -8,7 +8,6 @@ use Rattle.codeview.specs.declared.record.PointerMode.TheVariants as mode
 use Rattle.interpreter.specs.Trace.{Key, key, Held, held}
 use Rattle.rules.specs.Flags.{Settings, settings}
 use Rattle.rules.specs.Text.{Level, level}
-use Rattle.context.specs.declared.flags.TypeFormatterFlags.{TypeFormatterFlags}
 use Rattle.context.specs.declared.flags.FlagsRead.{FlagsRead}
 use Rattle.context.specs.declared.flags.FlagsRead.TheVariants.{Known, Refused}
 use Rattle.context.specs.declared.flags.Call.{Call}

@@ -1,17 +1,17 @@
 -- The laws of pages that proofs cite, so that no proof elsewhere opens a definition of `Page`. Assumes nothing.
-use Prim.Native.Nat.{ℕ, zero, suc, ◌+◌, ◌-◌, ◌*◌, ◌/◌, ◌%◌, ◌<◌, ◌≤◌}
+use Prim.Native.Nat.{ℕ, zero, suc, ◌+◌, ◌-◌, ◌/◌, ◌%◌, ◌<◌, ◌≤◌}
 use mathlib.Core.Logic.{◌⊎◌, inl, inr}
 use mathlib.Core.Path.{◌≡◌, refl, ap, ap₂, sym, ◌∙◌, subst}
 use mathlib.Core.List.{List, [], ◌∷◌, ◌++◌, append_assoc}
 use mathlib.Core.Bool.{Bool, true, false}
 use lib.ListN.{length, set, take, drop, get_or, length-set}
-use lib.Dec.{eqb, leb, ltb}
+use lib.Dec.{eqb, ltb}
 use lib.Seq.{take-suc, take_all, drop-drop, set_out, sets, sets-eq}
 use native.Mathlib.Decide.{dec_lt}
 use native.Mathlib.Numerals.{add-one}
 use native.Mathlib.Nat.{add-zero, zero-add, suc-add}
 use native.Mathlib.Omega.{arith}
-use borrow.Author.Tests.{ne_eqb, lt-ltb, le-ltb, lt-leb, le-leb, leb-true}
+use borrow.Author.Tests.{ne_eqb, lt-ltb, le-ltb, lt-leb, le-leb}
 use Rattle.wire.specs.Field.{pick}
 use Rattle.streams.specs.declared.refusal.Refusal.{Refusal}
 use Rattle.streams.specs.declared.refusal.Refusal.TheVariants.{CircularTypeDefinition, TooManyOpen, ChainTooLong, NoRoom}
@@ -21,11 +21,11 @@ use Rattle.streams.specs.declared.refusal.StreamKind.TheVariants as stream
 use Rattle.streams.specs.contracts.refusal.Refusal.{the_type}
 use denote.Enum.Declared.{tag_of}
 use package.types.Run.{OneOf}
-use Rattle.interpreter.specs.Trace.{Note, End, done, missing, refused, halted, unfinished, again, deep, long, Count, count, Trace, tr, prefix, then, asked, caught}
+use Rattle.interpreter.specs.Trace.{Note, End, done, missing, refused, halted, unfinished, again, deep, long, Count, count, Trace, tr, prefix, then, caught}
 use Rattle.pen.specs.declared.Pen.{Pen}
 use Rattle.pen.specs.declared.Stop.{Stop}
 use Rattle.pen.specs.declared.Stop.TheVariants.{No, Missing, Refused}
-use Rattle.pen.specs.Page.{stop_in, PenRead, read_pen, Page, PageRead, under, read_page, page, ended, gone, put, put_at, unless_stopped, ink, most, next, tick, tallied, stop_of, end_as, finish, page_after, Wrote, writing, step, last_since, resumed, go_on, Caught, idle, opened, last, ◌⨾◌, ending, marking, bytes_of, refused_pen, missed_pen, unread_pen, unread_trace, next_tally, opened_pen, Past}
+use Rattle.pen.specs.Page.{stop_in, PenRead, read_pen, Page, PageRead, under, read_page, page, ended, gone, put, unless_stopped, ink, most, next, tick, tallied, stop_of, end_as, finish, page_after, Wrote, writing, step, last_since, resumed, go_on, Caught, idle, opened, last, ◌⨾◌, ending, marking, bytes_of, refused_pen, missed_pen, unread_pen, unread_trace, next_tally, opened_pen, Past}
 
 -- The two numbers of a pen, read: a refusal's are its own.
 refusal-back : (f : Refusal) → stop_in (number_of f) (detail_of f) ≡ Refused f

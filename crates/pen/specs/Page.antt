@@ -4,7 +4,7 @@ use Rattle.wire.specs.Field.{pick}
 use Rattle.streams.specs.Refusal.{number_of, detail_of, refusal_of}
 use Rattle.streams.specs.declared.refusal.Refusal.{Refusal}
 use Rattle.streams.specs.declared.refusal.Refusal.TheVariants.{CircularTypeDefinition, TooManyOpen, ChainTooLong, NoRoom}
-use Rattle.interpreter.specs.Trace.{Note, again, deep, long, End, done, missing, refused, halted, unfinished, Count, count, Trace, tr, then, caught}
+use Rattle.interpreter.specs.Trace.{again, deep, long, End, done, missing, refused, halted, unfinished, count, Trace, tr, then, caught}
 use Rattle.pen.specs.declared.Pen.{Pen}
 use Rattle.pen.specs.declared.Stop.{Stop}
 use Rattle.pen.specs.declared.Stop.TheVariants.{No, Missing, Refused}

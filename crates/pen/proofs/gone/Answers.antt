@@ -1,5 +1,4 @@
 -- The two numbers are the refusal's.
-use borrow.Author.Rules.{rules}
 use Rattle.pen.proofs.gone.Goals as goal
 
 pub returns : goal.returns

@@ -1,7 +1,6 @@
 -- By the first of the pen's two numbers.
 use mathlib.Core.Path.{sym}
 use Rattle.pen.proofs.Laws.{stop-some}
-use borrow.Author.Rules.{rules}
 use Rattle.pen.proofs.is_idle.Goals as goal
 
 pub returns-then-p-eq0 : goal.returns-then-p-eq0

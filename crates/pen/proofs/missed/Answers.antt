@@ -2,7 +2,6 @@
 use mathlib.Core.Path.{sym}
 use Rattle.pen.specs.Page.{missed_pen}
 use Rattle.pen.proofs.Laws.{stopped-keeps, stop-none}
-use borrow.Author.Rules.{rules}
 use Rattle.pen.proofs.missed.Goals as goal
 
 pub returns-then-p-ne0 : goal.returns-then-p-ne0

@@ -1,6 +1,5 @@
 -- By the test.
 use Rattle.pen.proofs.Laws.{tally-room, tally-full}
-use borrow.Author.Rules.{rules}
 use Rattle.pen.proofs.next_tally.Goals as goal
 
 pub returns-then-tally-lt18446744073709551360 : goal.returns-then-tally-lt18446744073709551360

@@ -1,6 +1,5 @@
 -- All but the tally is as it was.
 use Rattle.pen.specs.Page.{opened_pen}
-use borrow.Author.Rules.{rules}
 use Rattle.pen.proofs.opened.Goals as goal
 
 pub returns : goal.returns

@@ -1,5 +1,4 @@
 -- The tally's two parts.
-use borrow.Author.Rules.{rules}
 use Rattle.pen.proofs.past.Goals as goal
 
 pub returns : goal.returns

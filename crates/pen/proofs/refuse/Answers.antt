@@ -1,9 +1,8 @@
 -- The pen stops at this end.
 use mathlib.Core.Path.{refl}
-use Rattle.interpreter.specs.Trace.{refused, halted, long}
+use Rattle.interpreter.specs.Trace.{refused}
 use Rattle.pen.specs.Page.{stop_of}
 use Rattle.pen.proofs.Laws.{wrote-stop}
-use borrow.Author.Rules.{rules}
 use Rattle.pen.proofs.refuse.Goals as goal
 
 pub returns : goal.returns

@@ -1,6 +1,5 @@
 -- By the tests that led to each return.
 use mathlib.Core.Path.{sym}
-use borrow.Author.Rules.{rules}
 use native.Mathlib.Omega.{arith}
 use Rattle.pen.proofs.Laws.{stopped-keeps, stop-none}
 use Rattle.pen.proofs.room.Goals as goal

@@ -1,7 +1,6 @@
 -- A store past the end changes nothing, as `set` does.
 use mathlib.Core.Path.{sym}
 use lib.Seq.{set_out}
-use borrow.Author.Rules.{rules}
 use Rattle.pen.proofs.store.Goals as goal
 
 pub returns-else-at-out : goal.returns-else-at-out

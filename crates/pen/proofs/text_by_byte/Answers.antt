@@ -1,10 +1,6 @@
-use Prim.Native.Nat.{◌≤◌, ◌-◌}
-use mathlib.Core.Path.{◌≡◌, sym}
-use lib.ListN.{length, take}
-use Rattle.pen.specs.Page.{page, read_page, ink}
+use mathlib.Core.Path.{sym}
 use Rattle.pen.proofs.Laws.{ink-nil, ink-turn, ink-all, run-say}
 use native.Mathlib.Omega.{arith}
-use borrow.Author.Rules.{rules}
 use Rattle.pen.proofs.text_by_byte.Goals as goal
 
 pub loop-i-init : goal.loop-i-init

@@ -1,11 +1,8 @@
 -- The invariant: the first i bytes are on the page. The measure is what is left of them.
 use Prim.Native.Nat.{◌≤◌, ◌-◌}
-use mathlib.Core.Path.{◌≡◌, sym}
+use mathlib.Core.Path.{◌≡◌}
 use lib.ListN.{length, take}
 use Rattle.pen.specs.Page.{page, read_page, ink}
-use Rattle.pen.proofs.Laws.{ink-nil, ink-turn, ink-all, run-say}
-use native.Mathlib.Omega.{arith}
-use borrow.Author.Rules.{rules}
 use Rattle.pen.proofs.text_by_byte.Given as goal
 
 abbrev pub invariant-loop-i : goal.invariant-loop-i

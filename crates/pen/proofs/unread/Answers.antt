@@ -1,6 +1,5 @@
 -- What the pen stops at is the trace's end.
 use Rattle.pen.proofs.Laws.{wrote-unread}
-use borrow.Author.Rules.{rules}
 use Rattle.pen.proofs.unread.Goals as goal
 
 pub returns : goal.returns

@@ -1,10 +1,7 @@
 -- The four cases of the definition.
 use native.Mathlib.Omega.{arith}
-use Rattle.context.specs.Context.{flags_byte, mode_byte, mode_at, level_at, levels_of}
-use mathlib.Core.Path.{◌≡◌, refl, sym, ◌∙◌}
-use lib.ListN.{length}
-use Rattle.context.proofs.levels.flags_byte.Reads as reads
-use Rattle.context.proofs.levels.flags_byte.Lts as lts
+use Rattle.context.specs.Context.{flags_byte}
+use mathlib.Core.Path.{refl}
 use Rattle.context.proofs.levels.flags_byte.Goals as goal
 
 pub returns-then-pointee : goal.returns-then-pointee

@@ -1,10 +1,5 @@
 -- The five modes.
-use Rattle.context.specs.Context.{flags_byte, mode_byte, mode_at, level_at, levels_of}
-use mathlib.Core.Path.{◌≡◌, refl, sym, ◌∙◌}
-use lib.ListN.{length}
 use Rattle.context.proofs.Laws.{mode-first, mode-second, mode-third, mode-fourth, mode-fifth}
-use Rattle.context.proofs.levels.mode_of.Reads as reads
-use Rattle.context.proofs.levels.mode_of.Lts as lts
 use Rattle.context.proofs.levels.mode_of.Goals as goal
 
 pub returns-then-n-eq0 : goal.returns-then-n-eq0

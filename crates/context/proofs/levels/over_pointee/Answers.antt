@@ -6,10 +6,6 @@ use Rattle.context.specs.Context.{level_at, levels_of, over_levels}
 use Rattle.context.proofs.Laws.{over-newest, over_none, over-read, over-is, unpacked}
 use mathlib.Core.Path.{◌≡◌, refl, ap, ◌∙◌}
 use lib.ListN.{length}
-use Rattle.context.proofs.levels.over_pointee.Reads as reads
-use Rattle.context.proofs.levels.over_pointee.Lts as lts
-use Rattle.context.proofs.levels.pack.Reads as pack-reads
-use Rattle.context.proofs.levels.unpack.Reads as unpack-reads
 use Rattle.context.proofs.levels.over_pointee.Goals as goal
 
 pub returns-then-at-lt96 : goal.returns-then-at-lt96

@@ -1,13 +1,5 @@
 -- The definition.
-use borrow.Author.Rules.{rules}
 use native.Mathlib.Omega.{arith}
-use Rattle.context.specs.Context.{flags_byte, mode_byte, mode_at, level_at, levels_of}
-use mathlib.Core.Path.{◌≡◌, refl, sym, ◌∙◌}
-use lib.ListN.{length}
-use Rattle.context.proofs.levels.pack.Reads as reads
-use Rattle.context.proofs.levels.pack.Lts as lts
-use Rattle.context.proofs.levels.flags_byte.Reads as flags-byte-reads
-use Rattle.context.proofs.levels.mode_byte.Reads as mode-byte-reads
 use Rattle.context.proofs.levels.pack.Goals as goal
 
 pub overflow_add-result : goal.overflow_add-result

@@ -5,9 +5,6 @@ use Rattle.context.specs.Context.{level_at, levels_of, pushed_level}
 use Rattle.context.proofs.Laws.{levels-push, unpacked}
 use mathlib.Core.Path.{◌≡◌, refl, ap, ◌∙◌}
 use lib.ListN.{length}
-use Rattle.context.proofs.levels.push_level.Reads as reads
-use Rattle.context.proofs.levels.push_level.Lts as lts
-use Rattle.context.proofs.levels.pack.Reads as pack-reads
 use Rattle.context.proofs.levels.push_level.Goals as goal
 
 pub returns : goal.returns

@@ -1,5 +1,4 @@
 -- The first of the four that is the index, or none of them.
-use borrow.Author.Rules.{rules}
 use native.Mathlib.Omega.{arith}
 use Rattle.context.proofs.Laws.{has_here, has-second, has-third, has-fourth, has-behind}
 use Rattle.context.proofs.seen.four_have.Goals as goal

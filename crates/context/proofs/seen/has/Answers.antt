@@ -1,9 +1,5 @@
-use borrow.Author.Rules.{rules}
 use native.Mathlib.Omega.{arith}
-use Prim.Native.Nat.{◌-◌}
-use mathlib.Core.Path.{◌≡◌, refl, sym, ◌∙◌}
-use lib.ListN.{length, drop}
-use Rattle.context.specs.Context.{keys_of, has_index}
+use mathlib.Core.Path.{refl, sym, ◌∙◌}
 use Rattle.context.proofs.Laws.{has-none}
 use Rattle.context.proofs.seen.has.Goals as goal
 

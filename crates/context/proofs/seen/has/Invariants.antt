@@ -1,11 +1,8 @@
 -- The invariant: the index is open if it is among those from i on. The measure is how many those are.
-use borrow.Author.Rules.{rules}
-use native.Mathlib.Omega.{arith}
 use Prim.Native.Nat.{◌-◌}
-use mathlib.Core.Path.{◌≡◌, refl, sym, ◌∙◌}
+use mathlib.Core.Path.{◌≡◌}
 use lib.ListN.{length, drop}
 use Rattle.context.specs.Context.{keys_of, has_index}
-use Rattle.context.proofs.Laws.{has-none}
 use Rattle.context.proofs.seen.has.Given as goal
 
 abbrev pub invariant-loop-i : goal.invariant-loop-i

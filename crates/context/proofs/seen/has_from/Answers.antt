@@ -1,12 +1,6 @@
-use borrow.Author.Rules.{rules}
 use native.Mathlib.Omega.{arith}
-use Prim.Native.Nat.{◌-◌}
-use mathlib.Core.Path.{◌≡◌, refl, sym, ◌∙◌}
-use lib.ListN.{length, drop}
-use Rattle.context.specs.Context.{keys_of, has_index}
+use mathlib.Core.Path.{refl, sym, ◌∙◌}
 use Rattle.context.proofs.Laws.{has_here, has-next, has-none}
-use Rattle.context.proofs.seen.has_from.Reads as reads
-use Rattle.context.proofs.seen.has_from.Lts as lts
 use Rattle.context.proofs.seen.has_from.Goals as goal
 
 pub loop-i-init : goal.loop-i-init

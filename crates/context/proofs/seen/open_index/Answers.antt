@@ -1,7 +1,5 @@
 -- By what is tested, in turn; an index that is opened comes right below the others.
 use borrow.Author.Rules.{rules}
-use native.Mathlib.Omega.{arith}
-use mathlib.Core.Path.{sym, ◌∙◌}
 use Rattle.context.proofs.Laws.{opens-idle, opens-again, opens-full, opens_in}
 use Rattle.context.proofs.seen.open_index.Goals as goal
 

@@ -1,17 +1,9 @@
 use borrow.Author.Rules.{rules}
 use native.Mathlib.Omega.{arith}
-use Prim.Native.Nat.{◌-◌}
 use mathlib.Core.Path.{◌≡◌, refl}
-use mathlib.Core.List.{map}
-use lib.ListN.{length, drop}
-use Rattle.rules.specs.Text.{levels}
-use Rattle.pen.specs.Page.{page, read_page, ink}
-use Rattle.context.specs.Context.{settings_of, level_at, levels_of}
+use lib.ListN.{length}
+use Rattle.context.specs.Context.{levels_of}
 use Rattle.leaf_writers.proofs.SignsLaws.{levels-turn, levels-end}
-use Rattle.leaf_writers.proofs.attributes.emit_attributes.Reads as reads
-use Rattle.leaf_writers.proofs.attributes.emit_attributes.Lts as lts
-use Rattle.context.proofs.levels.unpack.Reads as unpack-reads
-use Rattle.leaf_writers.proofs.attributes.emit_level.Reads as emit-level-reads
 use Rattle.leaf_writers.proofs.attributes.emit_attributes.Goals as goal
 
 pub loop-i-init : goal.loop-i-init

@@ -1,18 +1,11 @@
 -- The invariant: what is on the page, and the levels from i on, make all levels. The measure is the levels that are left.
-use borrow.Author.Rules.{rules}
-use native.Mathlib.Omega.{arith}
 use Prim.Native.Nat.{◌-◌}
-use mathlib.Core.Path.{◌≡◌, refl}
+use mathlib.Core.Path.{◌≡◌}
 use mathlib.Core.List.{map}
 use lib.ListN.{length, drop}
 use Rattle.rules.specs.Text.{levels}
 use Rattle.pen.specs.Page.{page, read_page, ink}
-use Rattle.context.specs.Context.{settings_of, level_at, levels_of}
-use Rattle.leaf_writers.proofs.SignsLaws.{levels-turn, levels-end}
-use Rattle.leaf_writers.proofs.attributes.emit_attributes.Reads as reads
-use Rattle.leaf_writers.proofs.attributes.emit_attributes.Lts as lts
-use Rattle.context.proofs.levels.unpack.Reads as unpack-reads
-use Rattle.leaf_writers.proofs.attributes.emit_level.Reads as emit-level-reads
+use Rattle.context.specs.Context.{settings_of, level_at}
 use Rattle.leaf_writers.proofs.attributes.emit_attributes.Given as goal
 
 abbrev pub invariant-loop-i : goal.invariant-loop-i

@@ -1,7 +1,6 @@
 -- With a space before it, or not.
 use Rattle.pen.proofs.Laws.{wrote_by}
 use Rattle.leaf_writers.proofs.SignsLaws.{const_free, const-first}
-use borrow.Author.Rules.{rules}
 use Rattle.leaf_writers.proofs.attributes.emit_const.Goals as goal
 
 pub returns-then-free : goal.returns-then-free

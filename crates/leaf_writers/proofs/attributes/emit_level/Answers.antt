@@ -2,7 +2,6 @@
 use Rattle.context.specs.Context.{level_of}
 use Rattle.pen.proofs.Laws.{◌▹◌, wrote_by}
 use Rattle.leaf_writers.proofs.SignsLaws.{level-is}
-use borrow.Author.Rules.{rules}
 use Rattle.leaf_writers.proofs.attributes.emit_level.Goals as goal
 
 pub returns : goal.returns

@@ -3,7 +3,6 @@ use Rattle.codeview.specs.declared.record.PointerMode.TheVariants as mode
 use Rattle.rules.specs.Text.{sign}
 use Rattle.pen.proofs.Laws.{wrote_by}
 use Rattle.leaf_writers.proofs.SignsLaws.{sign-as}
-use borrow.Author.Rules.{rules}
 use Rattle.leaf_writers.proofs.attributes.emit_sign.Goals as goal
 
 pub returns-in-Pointer : goal.returns-in-Pointer

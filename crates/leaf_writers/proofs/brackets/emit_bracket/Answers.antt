@@ -1,7 +1,6 @@
 -- Both cases of a divisor are cases of `bracket`.
 use Rattle.pen.proofs.Laws.{◌▹◌, wrote_by}
 use Rattle.leaf_writers.proofs.BracketsLaws.{bracket-none, bracket-some}
-use borrow.Author.Rules.{rules}
 use Rattle.leaf_writers.proofs.brackets.emit_bracket.Goals as goal
 
 pub returns-then-size-eq0 : goal.returns-then-size-eq0

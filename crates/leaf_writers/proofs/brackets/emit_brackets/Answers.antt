@@ -1,13 +1,10 @@
 use borrow.Author.Rules.{rules}
 use native.Mathlib.Omega.{arith}
-use Prim.Native.Nat.{◌≤◌, ◌-◌}
-use mathlib.Core.Path.{◌≡◌, refl, ap, sym, ◌∙◌}
+use Prim.Native.Nat.{◌-◌}
+use mathlib.Core.Path.{◌≡◌, refl, ap}
 use lib.ListN.{length, drop}
-use Rattle.rules.specs.Text.{brackets}
-use Rattle.pen.specs.Page.{page, Wrote, writing}
 use Rattle.pen.proofs.Laws.{◌▹◌, wrote_as, wrote_by, wrote_none}
 use Rattle.context.specs.Context.{sizes_of}
-use Rattle.leaf_writers.specs.Signs.{inside}
 use Rattle.leaf_writers.proofs.BracketsLaws.{brackets-start, brackets-turn, brackets-whole, drop_past}
 use Rattle.leaf_writers.proofs.brackets.emit_brackets.Goals as goal
 

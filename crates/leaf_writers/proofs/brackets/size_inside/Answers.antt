@@ -1,5 +1,4 @@
 -- The level below, or what is given.
-use borrow.Author.Rules.{rules}
 use Rattle.leaf_writers.proofs.BracketsLaws.{inside-level, inside-last}
 use Rattle.leaf_writers.proofs.brackets.size_inside.Goals as goal
 

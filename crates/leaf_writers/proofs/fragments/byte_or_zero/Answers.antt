@@ -1,5 +1,4 @@
 -- A byte inside is read, and any other counts as zero.
-use borrow.Author.Rules.{rules}
 use mathlib.Core.Path.{sym}
 use lib.ListN.{get_or-eq_default}
 use Rattle.leaf_writers.proofs.fragments.byte_or_zero.Goals as goal

@@ -1,5 +1,4 @@
 -- The last byte tells whether a sign stands before.
-use borrow.Author.Rules.{rules}
 use Rattle.pen.proofs.Laws.{wrote_by}
 use Rattle.leaf_writers.proofs.FragmentsLaws.{signs-behind-star, signs-behind}
 use Rattle.leaf_writers.proofs.fragments.emit_attributes_since.Goals as goal

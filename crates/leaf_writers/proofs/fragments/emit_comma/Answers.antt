@@ -1,5 +1,4 @@
 -- The comma, with a space by the flag.
-use borrow.Author.Rules.{rules}
 use Rattle.pen.proofs.Laws.{wrote_by}
 use Rattle.leaf_writers.proofs.FragmentsLaws.{comma-spaced, comma-close}
 use Rattle.context.specs.Context.{settings_of}

@@ -1,5 +1,5 @@
 -- Each kind that is named has its word; the others write nothing here.
-use borrow.Author.Rules.{rules}
+use borrow.Enum.Refused.{opened}
 use Rattle.pen.proofs.Laws.{wrote_by, wrote-same}
 use Rattle.leaf_writers.proofs.FragmentsLaws.{record-class, record-union, record-enum, record-enumerate, record-unhandled, record-none}
 use Rattle.leaf_writers.proofs.fragments.emit_record.Goals as goal
@@ -20,4 +20,4 @@ pub returns-in-Unhandled : goal.returns-in-Unhandled
 returns-in-Unhandled c = wrote_by c.unhandled_type.ensures (record-unhandled _ _ _ _ c.in-Unhandled.is)
 
 pub returns-in_default : goal.returns-in_default
-returns-in_default c = wrote-same (record-none _ _ _ c.in_default.in_default-own.keys6)
+returns-in_default c = wrote-same (record-none _ _ _ (opened c.in_default.in_default-own.keys6))

@@ -1,5 +1,4 @@
 -- Where the list starts outside, all its bytes are zeros; else no place is out of reach, and the four bytes make the number.
-use borrow.Author.Rules.{rules}
 use native.Mathlib.Omega.{arith}
 use mathlib.Core.Path.{sym}
 use Rattle.leaf_writers.proofs.FragmentsLaws.{number_past, number-four}

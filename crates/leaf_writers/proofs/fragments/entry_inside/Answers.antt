@@ -1,5 +1,4 @@
 -- Four bytes one after another make the number.
-use borrow.Author.Rules.{rules}
 use Rattle.leaf_writers.proofs.FragmentsLaws.{number-four}
 use Rattle.leaf_writers.proofs.fragments.entry_inside.Goals as goal
 

@@ -1,5 +1,4 @@
 -- The flag hides every result; without it, what is told decides.
-use borrow.Author.Rules.{rules}
 use mathlib.Core.Path.{refl, sym, ◌∙◌}
 use Rattle.leaf_writers.proofs.fragments.hides_return.Goals as goal
 

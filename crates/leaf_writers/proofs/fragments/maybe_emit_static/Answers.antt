@@ -1,5 +1,4 @@
 -- Nothing by the flag, and else by the this pointer.
-use borrow.Author.Rules.{rules}
 use Rattle.pen.proofs.Laws.{wrote_by, wrote-same}
 use Rattle.leaf_writers.proofs.FragmentsLaws.{static-never, static-by}
 use Rattle.leaf_writers.proofs.fragments.maybe_emit_static.Goals as goal

@@ -1,6 +1,5 @@
 -- Three texts, one after another.
 use Rattle.pen.proofs.Laws.{◌▹◌}
-use borrow.Author.Rules.{rules}
 use Rattle.leaf_writers.proofs.marks.around.Goals as goal
 
 pub returns : goal.returns

@@ -3,7 +3,7 @@ use package.types.Run.{miss}
 use Rattle.pen.proofs.Laws.{not-number}
 use Rattle.leaf_writers.specs.Marks.{mark_trace}
 use Rattle.leaf_writers.proofs.NamesLaws.{no_mark}
-use borrow.Author.Rules.{rules}
+use borrow.Enum.Refused.{opened}
 use Rattle.leaf_writers.proofs.marks.emit_mark.Goals as goal
 
 pub returns-in-Missing : goal.returns-in-Missing
@@ -16,4 +16,4 @@ returns-in-UnlistedKind c = rw c.in-UnlistedKind.is c.unimplemented.ensures
 
 pub returns-in_default : goal.returns-in_default
 unfolding mark_trace
-returns-in_default c = rw (not-number 7 no_mark _ (miss no_mark 7 tt) c.in_default.in_default-own.keys3, not-number 6 no_mark _ (miss no_mark 6 tt) c.in_default.in_default-own.keys3) c.refuse.ensures
+returns-in_default c = rw (not-number 7 no_mark _ (miss no_mark 7 tt) (opened c.in_default.in_default-own.keys3), not-number 6 no_mark _ (miss no_mark 6 tt) (opened c.in_default.in_default-own.keys3)) c.refuse.ensures

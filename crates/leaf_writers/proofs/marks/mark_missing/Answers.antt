@@ -1,6 +1,5 @@
 -- Only a pen that stopped at a missing index goes on.
 use Rattle.pen.proofs.Laws.{caught-goes, caught-none}
-use borrow.Author.Rules.{rules}
 use Rattle.leaf_writers.proofs.marks.mark_missing.Goals as goal
 
 pub returns-then-p-eq-MISSING : goal.returns-then-p-eq-MISSING

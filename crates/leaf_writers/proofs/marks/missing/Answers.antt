@@ -1,7 +1,6 @@
 -- Three texts, one after another, are those of the rule.
 use Rattle.rules.specs.Text.{missing_mark}
 use Rattle.pen.proofs.Laws.{◌▹◌}
-use borrow.Author.Rules.{rules}
 use Rattle.leaf_writers.proofs.marks.missing.Goals as goal
 
 pub returns : goal.returns

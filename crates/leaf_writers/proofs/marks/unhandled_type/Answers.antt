@@ -1,6 +1,5 @@
 -- The two texts are those of the rule.
 use Rattle.rules.specs.Text.{unhandled_type}
-use borrow.Author.Rules.{rules}
 use Rattle.leaf_writers.proofs.marks.unhandled_type.Goals as goal
 
 pub returns : goal.returns

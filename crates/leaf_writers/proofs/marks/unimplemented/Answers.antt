@@ -1,6 +1,5 @@
 -- The two texts are those of the rule.
 use Rattle.rules.specs.Text.{unimplemented_mark}
-use borrow.Author.Rules.{rules}
 use Rattle.leaf_writers.proofs.marks.unimplemented.Goals as goal
 
 pub returns : goal.returns

@@ -1,7 +1,6 @@
 -- The name behind the word of its kind.
 use Rattle.pen.proofs.Laws.{◌▹◌, wrote_by}
 use Rattle.leaf_writers.proofs.SignsLaws.{class-behind}
-use borrow.Author.Rules.{rules}
 use Rattle.leaf_writers.proofs.named.emit_class.Goals as goal
 
 pub returns : goal.returns

@@ -1,7 +1,6 @@
 -- The name alone, or the three texts one after another.
 use Rattle.pen.proofs.Laws.{◌▹◌, wrote_by}
 use Rattle.leaf_writers.proofs.SignsLaws.{named-alone, named-behind}
-use borrow.Author.Rules.{rules}
 use Rattle.leaf_writers.proofs.named.emit_named.Goals as goal
 
 pub returns-then-name_only : goal.returns-then-name_only

@@ -11,4 +11,4 @@ pub returns : goal.returns
 returns c = wrote_by (c.text_if-q.ensures ▹ c.emit_kind-k.ensures ▹ c.text_if-r.ensures ▹ c.text_if-t.ensures ▹ c.text.ensures) (primitive-aimed _ _ _ _ _ _ c.both.ensures c.space_pointer.ensures c.if-indirection-eq0.false)
 
 pub shape_of-out : goal.shape_of-out
-shape_of-out c = wrote-length (returns-2 c)
+shape_of-out c = wrote-length (returns c)

@@ -4,7 +4,6 @@ use lib.Seq.{length-take-le}
 use Rattle.pen.specs.Page.{writing}
 use Rattle.pen.proofs.Laws.{wrote_by}
 use Rattle.leaf_writers.proofs.NamesLaws.{kind-name, kind-short}
-use borrow.Author.Rules.{rules}
 use Rattle.leaf_writers.proofs.names.emit_kind.Goals as goal
 
 pub slice_bounds-bytes-end : goal.slice_bounds-bytes-end

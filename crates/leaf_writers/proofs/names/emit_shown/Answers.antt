@@ -1,12 +1,8 @@
-use Prim.Native.Nat.{◌≤◌, ◌-◌}
-use mathlib.Core.Path.{◌≡◌, refl, ◌∙◌}
-use lib.ListN.{length}
+use mathlib.Core.Path.{refl, ◌∙◌}
 use Rattle.utf8.proofs.Laws.{run-within}
-use Rattle.pen.specs.Page.{page, read_page}
 use Rattle.pen.proofs.Laws.{run-say, wrote-length}
-use Rattle.leaf_writers.proofs.NamesLaws.{Leads, part-behind, run-last, run-next, run-over}
+use Rattle.leaf_writers.proofs.NamesLaws.{part-behind, run-last, run-next, run-over}
 use native.Mathlib.Omega.{arith}
-use borrow.Author.Rules.{rules}
 use Rattle.leaf_writers.proofs.names.emit_shown.Goals as goal
 
 pub loop-at-init : goal.loop-at-init

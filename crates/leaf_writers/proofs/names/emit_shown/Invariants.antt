@@ -1,13 +1,9 @@
 -- The invariant: what is left of the name leads to the page that all of it leads to. The measure is what is left of its bytes.
 use Prim.Native.Nat.{◌≤◌, ◌-◌}
-use mathlib.Core.Path.{◌≡◌, refl, ◌∙◌}
+use mathlib.Core.Path.{◌≡◌}
 use lib.ListN.{length}
-use Rattle.utf8.proofs.Laws.{run-within}
 use Rattle.pen.specs.Page.{page, read_page}
-use Rattle.pen.proofs.Laws.{run-say, wrote-length}
-use Rattle.leaf_writers.proofs.NamesLaws.{Leads, part-behind, run-last, run-next, run-over}
-use native.Mathlib.Omega.{arith}
-use borrow.Author.Rules.{rules}
+use Rattle.leaf_writers.proofs.NamesLaws.{Leads}
 use Rattle.leaf_writers.proofs.names.emit_shown.Given as goal
 
 abbrev pub invariant-loop-at : goal.invariant-loop-at

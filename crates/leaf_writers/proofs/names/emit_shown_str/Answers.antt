@@ -1,7 +1,6 @@
 -- A name of some bytes, and the empty one.
 use Rattle.pen.proofs.Laws.{wrote_by}
 use Rattle.leaf_writers.proofs.NamesLaws.{shown-omitted, shown-itself}
-use borrow.Author.Rules.{rules}
 use Rattle.leaf_writers.proofs.names.emit_shown_str.Goals as goal
 
 pub returns-then-name-gt0 : goal.returns-then-name-gt0

@@ -5,4 +5,4 @@ use borrow.Author.Rules.{rules}
 use Rattle.leaf_writers.proofs.numbers.decimal.Goals as goal
 
 pub returns : goal.returns
-returns c = wrote_as (digits-said c.decimal_in-at.new.0 20 c.decimal_in-at.result c.decimal_in-at.ensures.1 (search rules)) c.text.ensures
+returns c = wrote_as (digits-said c.decimal_in-at.new.buf 20 c.decimal_in-at.result c.decimal_in-at.ensures.1 (search rules)) c.text.ensures

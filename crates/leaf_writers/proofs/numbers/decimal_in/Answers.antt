@@ -2,7 +2,6 @@
 use mathlib.Core.Path.{ap, ◌∙◌}
 use native.Mathlib.Omega.{arith}
 use Rattle.rules.specs.Text.{decimal, numeral}
-use borrow.Author.Rules.{rules}
 use Rattle.leaf_writers.proofs.numbers.decimal_in.Goals as goal
 
 pub returns : goal.returns

@@ -1,7 +1,6 @@
 -- A digit is below 16, so no step passes 102.
 use native.Mathlib.Omega.{arith}
 use Rattle.leaf_writers.proofs.NumbersLaws.{digit-is}
-use borrow.Author.Rules.{rules}
 use Rattle.leaf_writers.proofs.numbers.digit.Goals as goal
 
 pub returns : goal.returns

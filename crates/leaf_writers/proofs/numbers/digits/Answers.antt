@@ -1,12 +1,8 @@
-use Prim.Native.Nat.{◌≤◌}
-use mathlib.Core.Path.{◌≡◌, refl, sym, ◌∙◌}
-use mathlib.Core.List.{◌++◌}
-use lib.ListN.{length, drop, length-set}
+use mathlib.Core.Path.{refl, sym, ◌∙◌}
+use lib.ListN.{length-set}
 use native.Mathlib.Nat.{mod-lt}
 use native.Mathlib.Omega.{arith}
-use Rattle.rules.specs.Text.{numeral}
 use Rattle.leaf_writers.proofs.NumbersLaws.{digits-none, digits_last, digits_more, digits-all}
-use borrow.Author.Rules.{rules}
 use Rattle.leaf_writers.proofs.numbers.digits.Goals as goal
 
 pub loop-at-init : goal.loop-at-init

@@ -1,13 +1,9 @@
 -- The invariant: the digits still to come, and those that stand at the end, are the number. The measure is how many there is room for.
 use Prim.Native.Nat.{◌≤◌}
-use mathlib.Core.Path.{◌≡◌, refl, sym, ◌∙◌}
+use mathlib.Core.Path.{◌≡◌}
 use mathlib.Core.List.{◌++◌}
-use lib.ListN.{length, drop, length-set}
-use native.Mathlib.Nat.{mod-lt}
-use native.Mathlib.Omega.{arith}
+use lib.ListN.{length, drop}
 use Rattle.rules.specs.Text.{numeral}
-use Rattle.leaf_writers.proofs.NumbersLaws.{digits-none, digits_last, digits_more, digits-all}
-use borrow.Author.Rules.{rules}
 use Rattle.leaf_writers.proofs.numbers.digits.Given as goal
 
 abbrev pub invariant-loop-at : goal.invariant-loop-at

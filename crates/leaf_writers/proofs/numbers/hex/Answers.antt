@@ -7,4 +7,4 @@ use Rattle.leaf_writers.proofs.numbers.hex.Goals as goal
 
 pub returns : goal.returns
 unfolding hex
-returns c = wrote_as (digits-said c.digits-at.new.0 8 c.digits-at.result c.digits-at.ensures.1 (search rules)) c.text.ensures
+returns c = wrote_as (digits-said c.digits-at.new.buf 8 c.digits-at.result c.digits-at.ensures.1 (search rules)) c.text.ensures

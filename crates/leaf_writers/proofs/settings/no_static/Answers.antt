@@ -3,7 +3,6 @@ use mathlib.Core.Path.{◌∙◌}
 use Rattle.rules.specs.Flags.{settings}
 use Rattle.context.specs.Context.{settings_of}
 use Rattle.context.proofs.Laws.{flag-bit}
-use borrow.Author.Rules.{rules}
 use Rattle.leaf_writers.proofs.settings.no_static.Goals as goal
 
 pub returns : goal.returns

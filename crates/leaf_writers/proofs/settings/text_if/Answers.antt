@@ -1,7 +1,6 @@
 -- Both cases of the condition.
 use Rattle.pen.proofs.Laws.{wrote_by, wrote_none}
 use Rattle.leaf_writers.proofs.SignsLaws.{text-on, text-off}
-use borrow.Author.Rules.{rules}
 use Rattle.leaf_writers.proofs.settings.text_if.Goals as goal
 
 pub returns-then-b : goal.returns-then-b

@@ -1,7 +1,6 @@
 -- The text for an anonymous namespace, or the string.
 use Rattle.pen.proofs.Laws.{wrote_by}
 use Rattle.leaf_writers.proofs.AnonymousLaws.{string-anonymous, string-itself}
-use borrow.Author.Rules.{rules}
 use Rattle.leaf_writers.proofs.strings.emit_string.Goals as goal
 
 pub returns-then-is_anonymous_namespace : goal.returns-then-is_anonymous_namespace

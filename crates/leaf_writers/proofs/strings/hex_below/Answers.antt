@@ -1,10 +1,6 @@
-use Prim.Native.Nat.{◌≤◌, ◌<◌, ◌-◌}
-use mathlib.Core.Path.{◌≡◌, refl, sym, ◌∙◌}
-use lib.ListN.{length, drop}
-use Rattle.rules.specs.Text.{hex_below}
+use mathlib.Core.Path.{refl, sym, ◌∙◌}
 use Rattle.leaf_writers.proofs.AnonymousLaws.{below_next, below_other, below-over, below_all}
 use native.Mathlib.Omega.{arith}
-use borrow.Author.Rules.{rules}
 use Rattle.leaf_writers.proofs.strings.hex_below.Goals as goal
 
 pub loop-i-init : goal.loop-i-init

@@ -1,11 +1,8 @@
 -- The invariant: the digits from i on decide, the number before them is below 2^32. The measure is what is left of the bytes.
 use Prim.Native.Nat.{◌≤◌, ◌<◌, ◌-◌}
-use mathlib.Core.Path.{◌≡◌, refl, sym, ◌∙◌}
+use mathlib.Core.Path.{◌≡◌}
 use lib.ListN.{length, drop}
 use Rattle.rules.specs.Text.{hex_below}
-use Rattle.leaf_writers.proofs.AnonymousLaws.{below_next, below_other, below-over, below_all}
-use native.Mathlib.Omega.{arith}
-use borrow.Author.Rules.{rules}
 use Rattle.leaf_writers.proofs.strings.hex_below.Given as goal
 
 abbrev pub invariant-loop-i : goal.invariant-loop-i

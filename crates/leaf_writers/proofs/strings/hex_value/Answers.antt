@@ -1,6 +1,5 @@
 -- Each return is one of the seven ranges of a byte.
 use Rattle.leaf_writers.proofs.AnonymousLaws.{value-1, value-2, value-3, value-4, value-5, value-6, value-7}
-use borrow.Author.Rules.{rules}
 use Rattle.leaf_writers.proofs.strings.hex_value.Goals as goal
 
 pub returns-then-b-lt48 : goal.returns-then-b-lt48

@@ -1,7 +1,6 @@
 -- Too short, one of the four bytes another, or a number behind them.
 use mathlib.Core.Path.{◌∙◌}
 use Rattle.leaf_writers.proofs.AnonymousLaws.{anonymous-short, anonymous-first, anonymous-second, anonymous-third, anonymous-fourth, anonymous-whole}
-use borrow.Author.Rules.{rules}
 use Rattle.leaf_writers.proofs.strings.is_anonymous_namespace.Goals as goal
 
 pub returns-then-s-lt4 : goal.returns-then-s-lt4
