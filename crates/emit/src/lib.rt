@@ -8,7 +8,7 @@ ghost use Rattle.rules.specs.Text.{level};
 ghost use Rattle.rules.specs.Record.{method, procedure, arguments, type_contents};
 ghost use Rattle.rules.specs.Places.{lent};
 ghost use Rattle.rules.specs.Task.{by_itself, modified, element, texted};
-ghost use Rattle.rules.specs.Types.{type_text, result, method_arguments, argument_entries};
+ghost use Rattle.rules.specs.Types.{type_text, result as result_rule, method_arguments, argument_entries};
 ghost use Rattle.rules.specs.Pointers.{pointed};
 ghost use Rattle.pen.specs.Page.{page};
 ghost use Rattle.context.specs.Context.{settings_of, levels_of};
@@ -38,7 +38,7 @@ use queries::this::{ThisRead, check_ptr_class};
 use streams::refusal::Refusal;
 
 // A result and a space; nothing where there is none to write.
-#[cycle(args_base_emit_arg_list_emit_array_emit_member_ptr_emit_method_args_emit_modifier_emit_other_ptr_emit_proc_ptr_emit_ptr_emit_ptr_helper_emit_return_type_emit_type_emit_type_index_emit_type_inner)]
+#[cycle(type_writers)]
 pub fn emit_return_type(
     types: &[u8],
     ids: &[u8],
@@ -53,7 +53,7 @@ pub fn emit_return_type(
     index: TypeIndex,
 ) -> Pen
     requires { (length seen.old ≡ 96) × (left ≤ 96) }
-    ensures* { λ r. ⌜ Writes left seen.old seen.new (page out.old p) (λ o. ruling types.now (lent ids.now bounds.now places.now) call o (result (settings_of call) none index.0)) (page out.new r) ⌝ }
+    ensures { Writes left seen.old seen.new (page out.old p) (λ o. ruling types.now (lent ids.now bounds.now places.now) call o (result_rule (settings_of call) none index.0)) (page out.new result) }
 {
     if none {
         return p;
@@ -63,7 +63,7 @@ pub fn emit_return_type(
 }
 
 // A method's arguments: its list is opened, then read, then the this pointer is looked at, then all is written.
-#[cycle(args_base_emit_arg_list_emit_array_emit_member_ptr_emit_method_args_emit_modifier_emit_other_ptr_emit_proc_ptr_emit_ptr_emit_ptr_helper_emit_return_type_emit_type_emit_type_index_emit_type_inner)]
+#[cycle(type_writers)]
 pub fn emit_method_args(
     types: &[u8],
     ids: &[u8],
@@ -78,7 +78,7 @@ pub fn emit_method_args(
     closes: bool,
 ) -> Pen
     requires { (length seen.old ≡ 96) × (left ≤ 96) }
-    ensures* { λ r. ⌜ Writes left seen.old seen.new (page out.old p) (λ o. ruling types.now (lent ids.now bounds.now places.now) call o (method_arguments (settings_of call) (method_of m) closes)) (page out.new r) ⌝ }
+    ensures { Writes left seen.old seen.new (page out.old p) (λ o. ruling types.now (lent ids.now bounds.now places.now) call o (method_arguments (settings_of call) (method_of m) closes)) (page out.new result) }
 {
     if no_arguments(call) {
         return p;
@@ -103,7 +103,7 @@ pub fn emit_method_args(
 }
 
 // A method's arguments, its list read: a this pointer that is not one to the class is the first.
-#[cycle(args_base_emit_arg_list_emit_array_emit_member_ptr_emit_method_args_emit_modifier_emit_other_ptr_emit_proc_ptr_emit_ptr_emit_ptr_helper_emit_return_type_emit_type_emit_type_index_emit_type_inner)]
+#[cycle(type_writers)]
 fn args(
     types: &[u8],
     ids: &[u8],
@@ -119,7 +119,7 @@ fn args(
     closes: bool,
 ) -> Pen
     requires { (length seen.old ≡ 96) × (left ≤ 96) }
-    ensures* { λ r. ⌜ Writes left seen.old seen.new (page out.old p) (λ o. ruling types.now (lent ids.now bounds.now places.now) call o (list_rule types.now (lent ids.now bounds.now places.now) call m closes e)) (page out.new r) ⌝ }
+    ensures { Writes left seen.old seen.new (page out.old p) (λ o. ruling types.now (lent ids.now bounds.now places.now) call o (list_rule types.now (lent ids.now bounds.now places.now) call m closes e)) (page out.new result) }
 {
     let this = m.this;
     let class = m.class;
@@ -146,7 +146,7 @@ fn args(
 }
 
 // A pointer to a method.
-#[cycle(args_base_emit_arg_list_emit_array_emit_member_ptr_emit_method_args_emit_modifier_emit_other_ptr_emit_proc_ptr_emit_ptr_emit_ptr_helper_emit_return_type_emit_type_emit_type_index_emit_type_inner)]
+#[cycle(type_writers)]
 fn emit_member_ptr(
     types: &[u8],
     ids: &[u8],
@@ -161,7 +161,7 @@ fn emit_member_ptr(
     m: MemberFunctionType,
 ) -> Pen
     requires { (length seen.old ≡ 96) × (left ≤ 96) }
-    ensures* { λ r. ⌜ Writes left seen.old seen.new (page out.old p) (λ o. ruling types.now (lent ids.now bounds.now places.now) call o (pointed (settings_of call) (levels_of levels) (method (method_of m)))) (page out.new r) ⌝ }
+    ensures { Writes left seen.old seen.new (page out.old p) (λ o. ruling types.now (lent ids.now bounds.now places.now) call o (pointed (settings_of call) (levels_of levels) (method (method_of m)))) (page out.new result) }
 {
     let result = m.result;
     let class = m.class;
@@ -188,7 +188,7 @@ fn emit_member_ptr(
 }
 
 // A pointer to a procedure.
-#[cycle(args_base_emit_arg_list_emit_array_emit_member_ptr_emit_method_args_emit_modifier_emit_other_ptr_emit_proc_ptr_emit_ptr_emit_ptr_helper_emit_return_type_emit_type_emit_type_index_emit_type_inner)]
+#[cycle(type_writers)]
 fn emit_proc_ptr(
     types: &[u8],
     ids: &[u8],
@@ -203,7 +203,7 @@ fn emit_proc_ptr(
     x: ProcedureType,
 ) -> Pen
     requires { (length seen.old ≡ 96) × (left ≤ 96) }
-    ensures* { λ r. ⌜ Writes left seen.old seen.new (page out.old p) (λ o. ruling types.now (lent ids.now bounds.now places.now) call o (pointed (settings_of call) (levels_of levels) (procedure x.result.0 x.constructor x.arguments.0))) (page out.new r) ⌝ }
+    ensures { Writes left seen.old seen.new (page out.old p) (λ o. ruling types.now (lent ids.now bounds.now places.now) call o (pointed (settings_of call) (levels_of levels) (procedure x.result.0 x.constructor x.arguments.0))) (page out.new result) }
 {
     let result = x.result;
     let list = x.arguments;
@@ -220,7 +220,7 @@ fn emit_proc_ptr(
 }
 
 // A pointer to any other type: its text, then the signs.
-#[cycle(args_base_emit_arg_list_emit_array_emit_member_ptr_emit_method_args_emit_modifier_emit_other_ptr_emit_proc_ptr_emit_ptr_emit_ptr_helper_emit_return_type_emit_type_emit_type_index_emit_type_inner)]
+#[cycle(type_writers)]
 fn emit_other_ptr(
     types: &[u8],
     ids: &[u8],
@@ -235,7 +235,7 @@ fn emit_other_ptr(
     t: TypeData,
 ) -> Pen
     requires { (length seen.old ≡ 96) × (left < 96) }
-    ensures* { λ r. ⌜ Writes left seen.old seen.new (page out.old p) (λ o. ruling types.now (lent ids.now bounds.now places.now) call o (plain_pointed (settings_of call) (levels_of levels) (type_contents types.now t))) (page out.new r) ⌝ }
+    ensures { Writes left seen.old seen.new (page out.old p) (λ o. ruling types.now (lent ids.now bounds.now places.now) call o (plain_pointed (settings_of call) (levels_of levels) (type_contents types.now t))) (page out.new result) }
 {
     let start = p.at;
     let q = emit_type(types, ids, bounds, places, out, p, call, seen, left, t);
@@ -243,7 +243,7 @@ fn emit_other_ptr(
 }
 
 // What is under pointers, by its kind.
-#[cycle(args_base_emit_arg_list_emit_array_emit_member_ptr_emit_method_args_emit_modifier_emit_other_ptr_emit_proc_ptr_emit_ptr_emit_ptr_helper_emit_return_type_emit_type_emit_type_index_emit_type_inner)]
+#[cycle(type_writers)]
 fn emit_ptr_helper(
     types: &[u8],
     ids: &[u8],
@@ -258,7 +258,7 @@ fn emit_ptr_helper(
     t: TypeData,
 ) -> Pen
     requires { (length seen.old ≡ 96) × (left < 96) }
-    ensures* { λ r. ⌜ Writes left seen.old seen.new (page out.old p) (λ o. ruling types.now (lent ids.now bounds.now places.now) call o (pointed (settings_of call) (levels_of levels) (type_contents types.now t))) (page out.new r) ⌝ }
+    ensures { Writes left seen.old seen.new (page out.old p) (λ o. ruling types.now (lent ids.now bounds.now places.now) call o (pointed (settings_of call) (levels_of levels) (type_contents types.now t))) (page out.new result) }
 {
     match t {
         TypeData::MemberFunction(m) => emit_member_ptr(
@@ -274,7 +274,7 @@ fn emit_ptr_helper(
 }
 
 // A pointer's target, or that of a pointer's modifier, under the levels so far: another pointer goes on, and so does a first modifier.
-#[cycle(args_base_emit_arg_list_emit_array_emit_member_ptr_emit_method_args_emit_modifier_emit_other_ptr_emit_proc_ptr_emit_ptr_emit_ptr_helper_emit_return_type_emit_type_emit_type_index_emit_type_inner)]
+#[cycle(type_writers)]
 fn emit_ptr(
     types: &[u8],
     ids: &[u8],
@@ -290,7 +290,7 @@ fn emit_ptr(
     index: TypeIndex,
 ) -> Pen
     requires { (length seen.old ≡ 96) × (left ≤ levels.left) × (levels.left ≤ 96) }
-    ensures* { λ r. ⌜ Writes left seen.old seen.new (page out.old p) (λ o. walking types.now (lent ids.now bounds.now places.now) call o (aimed_at modified index.0 (levels_of levels))) (page out.new r) ⌝ }
+    ensures { Writes left seen.old seen.new (page out.old p) (λ o. walking types.now (lent ids.now bounds.now places.now) call o (aimed_at modified index.0 (levels_of levels))) (page out.new result) }
 {
     let way = way_to(modified);
     let q = open_index(p, seen, left, way, index);
@@ -327,7 +327,7 @@ fn emit_ptr(
 }
 
 // The levels of an array and the size of its base come first, then the base, then the levels in brackets.
-#[cycle(args_base_emit_arg_list_emit_array_emit_member_ptr_emit_method_args_emit_modifier_emit_other_ptr_emit_proc_ptr_emit_ptr_emit_ptr_helper_emit_return_type_emit_type_emit_type_index_emit_type_inner)]
+#[cycle(type_writers)]
 fn emit_array(
     types: &[u8],
     ids: &[u8],
@@ -341,7 +341,7 @@ fn emit_array(
     x: ArrayType,
 ) -> Pen
     requires { (length seen.old ≡ 96) × (left < 96) }
-    ensures* { λ r. ⌜ Writes left seen.old seen.new (page out.old p) (λ o. walking types.now (lent ids.now bounds.now places.now) call o (element x.element.0 (x.size ∷ []))) (page out.new r) ⌝ }
+    ensures { Writes left seen.old seen.new (page out.old p) (λ o. walking types.now (lent ids.now bounds.now places.now) call o (element x.element.0 (x.size ∷ []))) (page out.new result) }
 {
     let under = x.element;
     let info = get_array_info(types, bounds, places, under, x.size);
@@ -365,7 +365,7 @@ fn emit_array(
 
 // An array's base or what is under a modifier, with the text that `emit_type` has for it. A pointer and a modifier are gone on with at once, so that a row of
 // pointers to arrays waits in few frames, and one of modifiers costs few hand-overs.
-#[cycle(args_base_emit_arg_list_emit_array_emit_member_ptr_emit_method_args_emit_modifier_emit_other_ptr_emit_proc_ptr_emit_ptr_emit_ptr_helper_emit_return_type_emit_type_emit_type_index_emit_type_inner)]
+#[cycle(type_writers)]
 fn base(
     types: &[u8],
     ids: &[u8],
@@ -379,7 +379,7 @@ fn base(
     t: TypeData,
 ) -> Pen
     requires { (length seen.old ≡ 96) × (left < 96) }
-    ensures* { λ r. ⌜ Writes left seen.old seen.new (page out.old p) (λ o. ruling types.now (lent ids.now bounds.now places.now) call o (texted (type_text (settings_of call) (type_contents types.now t)))) (page out.new r) ⌝ }
+    ensures { Writes left seen.old seen.new (page out.old p) (λ o. ruling types.now (lent ids.now bounds.now places.now) call o (texted (type_text (settings_of call) (type_contents types.now t)))) (page out.new result) }
 {
     if pen::is_idle(p) {
         return p;
@@ -406,7 +406,7 @@ fn base(
 }
 
 // Any other modifier's target: a pointer takes the const, a primitive leads with it, any other type has it before its own text.
-#[cycle(args_base_emit_arg_list_emit_array_emit_member_ptr_emit_method_args_emit_modifier_emit_other_ptr_emit_proc_ptr_emit_ptr_emit_ptr_helper_emit_return_type_emit_type_emit_type_index_emit_type_inner)]
+#[cycle(type_writers)]
 fn emit_modifier(
     types: &[u8],
     ids: &[u8],
@@ -421,7 +421,7 @@ fn emit_modifier(
     index: TypeIndex,
 ) -> Pen
     requires { (length seen.old ≡ 96) × (left ≤ 96) }
-    ensures* { λ r. ⌜ Writes left seen.old seen.new (page out.old p) (λ o. walking types.now (lent ids.now bounds.now places.now) call o (modified index.0 constant)) (page out.new r) ⌝ }
+    ensures { Writes left seen.old seen.new (page out.old p) (λ o. walking types.now (lent ids.now bounds.now places.now) call o (modified index.0 constant)) (page out.new result) }
 {
     let q = open_index(p, seen, left, Way::Modified, index);
     if pen::is_idle(q) {
@@ -449,7 +449,7 @@ fn emit_modifier(
 }
 
 // The entries of a list by themselves, a comma before each but the first, or before all.
-#[cycle(args_base_emit_arg_list_emit_array_emit_member_ptr_emit_method_args_emit_modifier_emit_other_ptr_emit_proc_ptr_emit_ptr_emit_ptr_helper_emit_return_type_emit_type_emit_type_index_emit_type_inner)]
+#[cycle(type_writers)]
 fn emit_arg_list(
     types: &[u8],
     ids: &[u8],
@@ -464,7 +464,7 @@ fn emit_arg_list(
     e: Entries,
 ) -> Pen
     requires { (length seen.old ≡ 96) × (left ≤ 96) }
-    ensures* { λ r. ⌜ Writes left seen.old seen.new (page out.old p) (λ o. ruling types.now (lent ids.now bounds.now places.now) call o (argument_entries (settings_of call) led (entries_at types.now e))) (page out.new r) ⌝ }
+    ensures { Writes left seen.old seen.new (page out.old p) (λ o. ruling types.now (lent ids.now bounds.now places.now) call o (argument_entries (settings_of call) led (entries_at types.now e))) (page out.new result) }
 {
     let mut q = p;
     let mut between = led;
@@ -483,7 +483,7 @@ fn emit_arg_list(
 }
 
 // An index by itself: read, then opened, then written; its mark where it cannot be read.
-#[cycle(args_base_emit_arg_list_emit_array_emit_member_ptr_emit_method_args_emit_modifier_emit_other_ptr_emit_proc_ptr_emit_ptr_emit_ptr_helper_emit_return_type_emit_type_emit_type_index_emit_type_inner)]
+#[cycle(type_writers)]
 pub fn emit_type_index(
     types: &[u8],
     ids: &[u8],
@@ -497,7 +497,7 @@ pub fn emit_type_index(
     index: TypeIndex,
 ) -> Pen
     requires { (length seen.old ≡ 96) × (left ≤ 96) }
-    ensures* { λ r. ⌜ Writes left seen.old seen.new (page out.old p) (λ o. walking types.now (lent ids.now bounds.now places.now) call o (by_itself index.0)) (page out.new r) ⌝ }
+    ensures { Writes left seen.old seen.new (page out.old p) (λ o. walking types.now (lent ids.now bounds.now places.now) call o (by_itself index.0)) (page out.new result) }
 {
     if pen::is_idle(p) {
         return p;
@@ -516,7 +516,7 @@ pub fn emit_type_index(
 }
 
 // A type's text, with the mark where an index in it was missing.
-#[cycle(args_base_emit_arg_list_emit_array_emit_member_ptr_emit_method_args_emit_modifier_emit_other_ptr_emit_proc_ptr_emit_ptr_emit_ptr_helper_emit_return_type_emit_type_emit_type_index_emit_type_inner)]
+#[cycle(type_writers)]
 fn emit_type(
     types: &[u8],
     ids: &[u8],
@@ -530,7 +530,7 @@ fn emit_type(
     t: TypeData,
 ) -> Pen
     requires { (length seen.old ≡ 96) × (left < 96) }
-    ensures* { λ r. ⌜ Writes left seen.old seen.new (page out.old p) (λ o. ruling types.now (lent ids.now bounds.now places.now) call o (texted (type_text (settings_of call) (type_contents types.now t)))) (page out.new r) ⌝ }
+    ensures { Writes left seen.old seen.new (page out.old p) (λ o. ruling types.now (lent ids.now bounds.now places.now) call o (texted (type_text (settings_of call) (type_contents types.now t)))) (page out.new result) }
 {
     if pen::is_idle(p) {
         return p;
@@ -540,7 +540,7 @@ fn emit_type(
 }
 
 // A type by its kind. A bare procedure's text has no closing parenthesis.
-#[cycle(args_base_emit_arg_list_emit_array_emit_member_ptr_emit_method_args_emit_modifier_emit_other_ptr_emit_proc_ptr_emit_ptr_emit_ptr_helper_emit_return_type_emit_type_emit_type_index_emit_type_inner)]
+#[cycle(type_writers)]
 fn emit_type_inner(
     types: &[u8],
     ids: &[u8],
@@ -554,7 +554,7 @@ fn emit_type_inner(
     t: TypeData,
 ) -> Pen
     requires { (length seen.old ≡ 96) × (left < 96) }
-    ensures* { λ r. ⌜ Writes left seen.old seen.new (page out.old p) (λ o. ruling types.now (lent ids.now bounds.now places.now) call o (type_text (settings_of call) (type_contents types.now t))) (page out.new r) ⌝ }
+    ensures { Writes left seen.old seen.new (page out.old p) (λ o. ruling types.now (lent ids.now bounds.now places.now) call o (type_text (settings_of call) (type_contents types.now t))) (page out.new result) }
 {
     match t {
         TypeData::Primitive(x) => emit_primitive(out, p, call, false, x.code, x.indirection),
@@ -602,7 +602,7 @@ fn emit_type_inner(
 // One pointer further in.
 fn aim(o: Levels, constant: bool, mode: PointerMode) -> Levels
     requires { (0 < o.left) × (o.left ≤ 96) }
-    ensures* { λ r. ⌜ (r.left ≡ o.left - 1) × (levels_of r ≡ level constant false mode ∷ levels_of o) ⌝ }
+    ensures { (result.left ≡ o.left - 1) × (levels_of result ≡ level constant false mode ∷ levels_of o) }
 {
     push_level(
         o,
@@ -616,7 +616,7 @@ fn aim(o: Levels, constant: bool, mode: PointerMode) -> Levels
 
 // How a target is opened: a pointer's, or that of a pointer's modifier.
 fn way_to(modified: bool) -> Way
-    ensures* { λ r. ⌜ r ≡ way_to modified ⌝ }
+    ensures { result ≡ way_to modified }
 {
     if modified {
         Way::TargetOfModifier

@@ -1,3 +1,4 @@
+use borrow.Enum.Refused.{opened}
 use borrow.Author.Rules.{rules}
 use native.Mathlib.Omega.{arith}
 use Prim.Native.Nat.{◌≤◌}
@@ -13,7 +14,7 @@ unfolding no_dimensions pushed_dimension
 loop-t-init c = (omega arith, from_first _ _ _ _ no_dimensions _ refl refl)
 
 pub returns-in_default : goal.returns-in_default
-returns-in_default c = info _ _ _ _ _ (from-base _ _ _ _ _ c.type_at.ensures _ _ c.in-Good.is c.in_default.keys2 ∙ c.loop-t.invariant.1)
+returns-in_default c = info _ _ _ _ _ (from-base _ _ _ _ _ c.type_at.ensures _ _ c.in-Good.is (opened c.in_default.in_default-own.keys2) ∙ c.loop-t.invariant.1)
 
 pub returns-then-left-eq0 : goal.returns-then-left-eq0
 returns-then-left-eq0 c = info _ _ _ _ _ (from-full _ _ _ _ _ c.type_at.ensures _ _ c.in-Good.is c.in-Array.is c.if-left-eq0.true ∙ c.loop-t.invariant.1)

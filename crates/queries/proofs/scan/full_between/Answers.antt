@@ -1,3 +1,4 @@
+use borrow.Enum.Refused.{opened}
 use Prim.Native.Nat.{◌≤◌}
 use mathlib.Core.Path.{◌≡◌, refl}
 use Rattle.streams.specs.declared.stream.Cursor.{Cursor}
@@ -10,7 +11,7 @@ pub loop-at-init : goal.loop-at-init
 loop-at-init c = λ from h e. scan-first _ _ _ _ _ _ c.requires.0 h e
 
 pub returns-in_default : goal.returns-in_default
-returns-in_default c = scan-over _ _ _ _ _ _ (c.loop-at.invariant c.args.from c.requires.1 c.walk_from-at.ensures) (none-at _ c.in_default.in_default-own.keys2)
+returns-in_default c = scan-over _ _ _ _ _ _ (c.loop-at.invariant c.args.from c.requires.1 c.walk_from-at.ensures) (none-at _ (opened c.in_default.in_default-own.keys2))
 
 pub returns-then-stop-c : goal.returns-then-stop-c
 returns-then-stop-c c = scan-past _ _ _ _ _ _ (c.loop-at.invariant c.args.from c.requires.1 c.walk_from-at.ensures) c.in-At.is c.if-stop-c.true
