@@ -5,7 +5,9 @@
 #     tools/staticlib.sh
 set -eu
 cd "$(dirname "$0")/.."
-rt staticlib yokberd
+mkdir -p target/staticlib
+(cd crates/yokberd_c && rt lib)
+cp crates/yokberd_c/out/libyokberd_c.a target/staticlib/libyokberd.a
 version=$(sed -n 's/^#define YOKBERD_VERSION "\(.*\)"$/\1/p' c/yokberd.h)
 cat >target/staticlib/yokberd.pc <<END
 prefix=\${pcfiledir}/../..

@@ -1,9 +1,9 @@
 -- The laws of functions and ids: what each trace is, at the tests that lead to each return. Assumes nothing.
-use Prim.Native.Nat.{ℕ, zero, suc, ◌+◌, ◌-◌, ◌*◌, ◌<◌, ◌≤◌}
+use Prim.Native.Nat.{ℕ, zero, suc, ◌+◌, ◌<◌, ◌≤◌}
 use mathlib.Core.Path.{◌≡◌, refl, ap, sym, ◌∙◌}
-use mathlib.Core.List.{List, [], ◌∷◌, ◌++◌}
-use mathlib.Core.Bool.{Bool, true, false, ◌||◌, ◌&&◌, not}
-use lib.Dec.{eqb, leb}
+use mathlib.Core.List.{List, [], ◌∷◌}
+use mathlib.Core.Bool.{Bool, true, false, ◌||◌}
+use lib.Dec.{eqb}
 use lib.ListN.{length}
 use native.Mathlib.Decide.{dec_lt}
 use native.Mathlib.Numerals.{add-one}
@@ -11,7 +11,6 @@ use native.Mathlib.Omega.{arith}
 use borrow.Author.Tests.{eq-eqb, ne_eqb, lt-leb, le-leb}
 use denote.Enum.Declared.{tag_of}
 use package.types.Run.{OneOf, miss}
-use Rattle.wire.specs.Field.{pick, number}
 use Rattle.wire.specs.Text.{bytes}
 use Rattle.streams.specs.declared.refusal.Refusal.{Refusal}
 use Rattle.streams.specs.declared.refusal.Refusal.TheVariants.{
@@ -61,28 +60,10 @@ use Rattle.interpreter.proofs.Laws.{walk-long, walk-fresh}
 use Rattle.wire.specs.declared.name.Name.{Name}
 use Rattle.utf8.specs.Utf8.{shown}
 use Rattle.rules.specs.Flags.{Settings}
-use Rattle.rules.specs.Record.{
-  Record,
-  Method,
-  Read,
-  good,
-  bad,
-  Table,
-  IdRecord,
-  function,
-  strings,
-  procedure_or,
-  method_or,
-  type_contents,
-  id_contents,
-  id_as_read,
-  name_at,
-  shown_at,
-  numbers_at,
-}
+use Rattle.rules.specs.Record.{Method, good, bad, Table, procedure_or, method_or, type_contents, id_contents, id_as_read, name_at, shown_at, numbers_at}
 use Rattle.rules.specs.Places.{table_by, Lent, table_in, read_near}
 use Rattle.rules.specs.Text.{function_name, string_text, unhandled_scope}
-use Rattle.rules.specs.Task.{Task, by_itself, function_of, id_of, function_id, member_id, Rule, inside, unread, marked}
+use Rattle.rules.specs.Task.{by_itself, function_of, id_of, function_id, member_id, Rule, inside, marked}
 use Rattle.rules.specs.Types.{result, procedure_result, returned, method_arguments, procedure_arguments}
 use Rattle.rules.specs.Methods.{static_mark, method_named, procedure_named}
 use Rattle.rules.specs.Ids.{function_text, scope_text, function_id_text, member_id_text, string_entries, id_text, id_alone}

@@ -107,8 +107,7 @@ fn report_stream(a: StreamRead, at: &mut usize, len: &mut usize) -> u32
 }
 
 // The text of a function, by its name and type.
-#[unsafe(no_mangle)]
-pub extern "C" fn yokberd_format_function(
+pub fn yokberd_format_function(
     types: &[u8],
     out: &mut [u8],
     flags: u32,
@@ -126,8 +125,7 @@ pub extern "C" fn yokberd_format_function(
 }
 
 // The text of an id.
-#[unsafe(no_mangle)]
-pub extern "C" fn yokberd_format_id(
+pub fn yokberd_format_id(
     types: &[u8],
     ids: &[u8],
     out: &mut [u8],
@@ -145,8 +143,7 @@ pub extern "C" fn yokberd_format_id(
 }
 
 // The text of a type.
-#[unsafe(no_mangle)]
-pub extern "C" fn yokberd_format_type(
+pub fn yokberd_format_type(
     types: &[u8],
     out: &mut [u8],
     flags: u32,
@@ -163,8 +160,7 @@ pub extern "C" fn yokberd_format_type(
 }
 
 // The size of a type; this call takes no flags.
-#[unsafe(no_mangle)]
-pub extern "C" fn yokberd_get_type_size(
+pub fn yokberd_get_type_size(
     types: &[u8],
     size: u32,
     index: u32,
@@ -179,8 +175,7 @@ pub extern "C" fn yokberd_get_type_size(
 }
 
 // The texts of ids, one after another, with four numbers for each: how many of the indexes are done.
-#[unsafe(no_mangle)]
-pub extern "C" fn yokberd_format_ids(
+pub fn yokberd_format_ids(
     types: &[u8],
     ids: &[u8],
     out: &mut [u8],
@@ -197,8 +192,7 @@ pub extern "C" fn yokberd_format_ids(
 }
 
 // The texts of types, one after another, with four numbers for each: how many of the indexes are done.
-#[unsafe(no_mangle)]
-pub extern "C" fn yokberd_format_types(
+pub fn yokberd_format_types(
     types: &[u8],
     out: &mut [u8],
     flags: u32,
@@ -214,13 +208,7 @@ pub extern "C" fn yokberd_format_types(
 }
 
 // Checks both streams once, and leaves in a buffer what the calls below go by: how many numbers of it serve.
-#[unsafe(no_mangle)]
-pub extern "C" fn yokberd_check_streams(
-    types: &[u8],
-    ids: &[u8],
-    stride: u32,
-    checked: &mut [u32],
-) -> usize
+pub fn yokberd_check_streams(types: &[u8], ids: &[u8], stride: u32, checked: &mut [u32]) -> usize
     ensures value { result ≡ serving stride types.now ids.now }
     ensures filled { Filled types.now ids.now checked.old checked.new }
 {
@@ -228,8 +216,7 @@ pub extern "C" fn yokberd_check_streams(
 }
 
 // The text of a function over streams that were checked before.
-#[unsafe(no_mangle)]
-pub extern "C" fn yokberd_checked_format_function(
+pub fn yokberd_checked_format_function(
     types: &[u8],
     checked: &[u32],
     out: &mut [u8],
@@ -248,8 +235,7 @@ pub extern "C" fn yokberd_checked_format_function(
 }
 
 // The text of an id.
-#[unsafe(no_mangle)]
-pub extern "C" fn yokberd_checked_format_id(
+pub fn yokberd_checked_format_id(
     types: &[u8],
     ids: &[u8],
     checked: &[u32],
@@ -268,8 +254,7 @@ pub extern "C" fn yokberd_checked_format_id(
 }
 
 // The text of a type.
-#[unsafe(no_mangle)]
-pub extern "C" fn yokberd_checked_format_type(
+pub fn yokberd_checked_format_type(
     types: &[u8],
     checked: &[u32],
     out: &mut [u8],
@@ -287,8 +272,7 @@ pub extern "C" fn yokberd_checked_format_type(
 }
 
 // The size of a type; this call takes no flags.
-#[unsafe(no_mangle)]
-pub extern "C" fn yokberd_checked_get_type_size(
+pub fn yokberd_checked_get_type_size(
     types: &[u8],
     checked: &[u32],
     size: u32,
@@ -304,8 +288,7 @@ pub extern "C" fn yokberd_checked_get_type_size(
 }
 
 // The texts of ids over streams that were checked before.
-#[unsafe(no_mangle)]
-pub extern "C" fn yokberd_checked_format_ids(
+pub fn yokberd_checked_format_ids(
     types: &[u8],
     ids: &[u8],
     checked: &[u32],
@@ -323,8 +306,7 @@ pub extern "C" fn yokberd_checked_format_ids(
 }
 
 // The texts of types over streams that were checked before.
-#[unsafe(no_mangle)]
-pub extern "C" fn yokberd_checked_format_types(
+pub fn yokberd_checked_format_types(
     types: &[u8],
     checked: &[u32],
     out: &mut [u8],
@@ -341,8 +323,7 @@ pub extern "C" fn yokberd_checked_format_types(
 }
 
 // Fills the front of a buffer with the places of the type records 0, 64, 128 and on.
-#[unsafe(no_mangle)]
-pub extern "C" fn yokberd_fill_places(
+pub fn yokberd_fill_places(
     types: &[u8],
     places: &mut [u32],
     detail: &mut u32,
@@ -356,8 +337,7 @@ pub extern "C" fn yokberd_fill_places(
 }
 
 // The text of a function, with lent places.
-#[unsafe(no_mangle)]
-pub extern "C" fn yokberd_placed_format_function(
+pub fn yokberd_placed_format_function(
     types: &[u8],
     places: &[u32],
     out: &mut [u8],
@@ -376,8 +356,7 @@ pub extern "C" fn yokberd_placed_format_function(
 }
 
 // The text of an id, with lent places.
-#[unsafe(no_mangle)]
-pub extern "C" fn yokberd_placed_format_id(
+pub fn yokberd_placed_format_id(
     types: &[u8],
     ids: &[u8],
     places: &[u32],
@@ -396,8 +375,7 @@ pub extern "C" fn yokberd_placed_format_id(
 }
 
 // The text of a type, with lent places.
-#[unsafe(no_mangle)]
-pub extern "C" fn yokberd_placed_format_type(
+pub fn yokberd_placed_format_type(
     types: &[u8],
     places: &[u32],
     out: &mut [u8],
@@ -415,8 +393,7 @@ pub extern "C" fn yokberd_placed_format_type(
 }
 
 // The size of a type, with lent places; this call takes no flags.
-#[unsafe(no_mangle)]
-pub extern "C" fn yokberd_placed_get_type_size(
+pub fn yokberd_placed_get_type_size(
     types: &[u8],
     places: &[u32],
     size: u32,
@@ -432,8 +409,7 @@ pub extern "C" fn yokberd_placed_get_type_size(
 }
 
 // A sheet's lines behind the first `skip` of them, as far as whole lines fit: 1 where lines are left, else 0.
-#[unsafe(no_mangle)]
-pub extern "C" fn yokberd_print_sheet(
+pub fn yokberd_print_sheet(
     types: &[u8],
     ids: &[u8],
     sheet: &[u8],
@@ -451,8 +427,7 @@ pub extern "C" fn yokberd_print_sheet(
 }
 
 // A sheet's lines over streams that were checked before.
-#[unsafe(no_mangle)]
-pub extern "C" fn yokberd_checked_print_sheet(
+pub fn yokberd_checked_print_sheet(
     types: &[u8],
     ids: &[u8],
     checked: &[u32],
@@ -472,8 +447,7 @@ pub extern "C" fn yokberd_checked_print_sheet(
 }
 
 // The bytes of a stream of a .pdb file, by its number.
-#[unsafe(no_mangle)]
-pub extern "C" fn yokberd_read_stream(
+pub fn yokberd_read_stream(
     file: &[u8],
     number: u32,
     out: &mut [u8],

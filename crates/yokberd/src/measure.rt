@@ -31,8 +31,7 @@ fn report_measure(a: Measure, detail: &mut u32, length: &mut usize, opened: &mut
 }
 
 // The measure of a function, by its name and type.
-#[unsafe(no_mangle)]
-pub extern "C" fn yokberd_measure_function(
+pub fn yokberd_measure_function(
     types: &[u8],
     flags: u32,
     size: u32,
@@ -50,8 +49,7 @@ pub extern "C" fn yokberd_measure_function(
 }
 
 // The measure of an id.
-#[unsafe(no_mangle)]
-pub extern "C" fn yokberd_measure_id(
+pub fn yokberd_measure_id(
     types: &[u8],
     ids: &[u8],
     flags: u32,
@@ -69,8 +67,7 @@ pub extern "C" fn yokberd_measure_id(
 }
 
 // The measure of a type.
-#[unsafe(no_mangle)]
-pub extern "C" fn yokberd_measure_type(
+pub fn yokberd_measure_type(
     types: &[u8],
     flags: u32,
     size: u32,
@@ -87,8 +84,7 @@ pub extern "C" fn yokberd_measure_type(
 }
 
 // The measure of a function, by its name and type, over streams that were checked before.
-#[unsafe(no_mangle)]
-pub extern "C" fn yokberd_checked_measure_function(
+pub fn yokberd_checked_measure_function(
     types: &[u8],
     checked: &[u32],
     flags: u32,
@@ -107,8 +103,7 @@ pub extern "C" fn yokberd_checked_measure_function(
 }
 
 // The measure of an id over streams that were checked before.
-#[unsafe(no_mangle)]
-pub extern "C" fn yokberd_checked_measure_id(
+pub fn yokberd_checked_measure_id(
     types: &[u8],
     ids: &[u8],
     checked: &[u32],
@@ -127,8 +122,7 @@ pub extern "C" fn yokberd_checked_measure_id(
 }
 
 // The measure of a type over streams that were checked before.
-#[unsafe(no_mangle)]
-pub extern "C" fn yokberd_checked_measure_type(
+pub fn yokberd_checked_measure_type(
     types: &[u8],
     checked: &[u32],
     flags: u32,
@@ -146,8 +140,7 @@ pub extern "C" fn yokberd_checked_measure_type(
 }
 
 // The measure of a function, by its name and type, with lent places.
-#[unsafe(no_mangle)]
-pub extern "C" fn yokberd_placed_measure_function(
+pub fn yokberd_placed_measure_function(
     types: &[u8],
     places: &[u32],
     flags: u32,
@@ -166,8 +159,7 @@ pub extern "C" fn yokberd_placed_measure_function(
 }
 
 // The measure of an id, with lent places.
-#[unsafe(no_mangle)]
-pub extern "C" fn yokberd_placed_measure_id(
+pub fn yokberd_placed_measure_id(
     types: &[u8],
     ids: &[u8],
     places: &[u32],
@@ -186,8 +178,7 @@ pub extern "C" fn yokberd_placed_measure_id(
 }
 
 // The measure of a type, with lent places.
-#[unsafe(no_mangle)]
-pub extern "C" fn yokberd_placed_measure_type(
+pub fn yokberd_placed_measure_type(
     types: &[u8],
     places: &[u32],
     flags: u32,

@@ -5,7 +5,7 @@ use Rattle.batch.proofs.BatchLaws.{by-types, by-ids}
 use Rattle.batch.proofs.text_of.Goals as goal
 
 pub returns-in-Types : goal.returns-in-Types
-returns-in-Types c = c.type_text.ensures ∙ by-types _ _ _ _ _ _ _ _ (search (c.enum_told-1.given, rules))
+returns-in-Types c = c.type_text.ensures ∙ by-types _ _ _ _ _ _ _ _ c.in-Types.is
 
 pub returns-in-Ids : goal.returns-in-Ids
-returns-in-Ids c = c.id_text.ensures ∙ by-ids _ _ _ _ _ _ _ _ (search (c.enum_told-in-Ids-1.given, rules))
+returns-in-Ids c = c.id_text.ensures ∙ by-ids _ _ _ _ _ _ _ _ c.in-Ids.is

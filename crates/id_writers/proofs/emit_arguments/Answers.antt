@@ -1,13 +1,7 @@
 -- The parts one after another, as the rule has them.
-use borrow.Author.Rules.{rules}
-use Rattle.pen.proofs.Laws.{wrote_none, wrote-length}
+use Rattle.pen.proofs.Laws.{wrote_none}
 use Rattle.context.proofs.Opening.{plain, ◌▸▸◌, writes-by, writes-length}
 use Rattle.id_writers.proofs.Laws.{arguments-hidden, arguments-shown}
-use Rattle.id_writers.proofs.emit_arguments.Reads as reads
-use Rattle.id_writers.proofs.emit_arguments.Lts as lts
-use Rattle.leaf_writers.proofs.settings.no_arguments.Reads as no-arguments-reads
-use Rattle.pen.proofs.text.Reads as text-reads
-use Rattle.emit.proofs.emit_type_index.Reads as emit-type-index-reads
 use Rattle.id_writers.proofs.emit_arguments.Goals as goal
 
 pub returns-then-no_arguments : goal.returns-then-no_arguments

@@ -1,4 +1,5 @@
 -- Each case of the function's type is one of the rule's.
+use borrow.Enum.Refused.{opened}
 use borrow.Author.Rules.{rules}
 use native.Mathlib.Omega.{arith}
 use mathlib.Core.Path.{sym, ◌∙◌}
@@ -35,7 +36,7 @@ pub shape_of-out-in_default : goal.shape_of-out-in_default
 shape_of-out-in_default c = wrote-length c.text.ensures
 
 pub returns-in_default : goal.returns-in_default
-returns-in_default c = function-open _ _ _ _ _ c.if-index-eq0.false _ c.open_index-q.ensures (search rules) (sym c.is_idle.ensures ∙ c.if-is_idle.false) c.type_at.ensures c.in-Good.is (writes-by (plain c.text.ensures) (function-other _ _ _ _ _ _ c.in_default.keys3))
+returns-in_default c = function-open _ _ _ _ _ c.if-index-eq0.false _ c.open_index-q.ensures (search rules) (sym c.is_idle.ensures ∙ c.if-is_idle.false) c.type_at.ensures c.in-Good.is (writes-by (plain c.text.ensures) (function-other _ _ _ _ _ _ (opened c.in_default.in_default-own.keys3)))
 
 pub returns-in-Refused : goal.returns-in-Refused
 returns-in-Refused c = function-bad _ _ _ _ _ c.if-index-eq0.false _ c.open_index-q.ensures (search rules) (sym c.is_idle.ensures ∙ c.if-is_idle.false) c.type_at.ensures c.in-Refused.is c.unread.ensures

@@ -1,13 +1,6 @@
 -- The parts one after another; the name's bytes are those of the record.
-use borrow.Author.Rules.{rules}
 use Rattle.context.proofs.Opening.{plain, ◌▸▸◌, writes-by, writes-length}
 use Rattle.id_writers.proofs.Laws.{ended-shown}
-use Rattle.id_writers.proofs.emit_id_end.Reads as reads
-use Rattle.id_writers.proofs.emit_id_end.Lts as lts
-use Rattle.id_writers.proofs.emit_arguments.Reads as emit-arguments-reads
-use Rattle.pen.proofs.text.Reads as text-reads
-use Rattle.leaf_writers.proofs.names.emit_shown_str.Reads as emit-shown-str-reads
-use Rattle.leaf_writers.proofs.names.name_of.Reads as name-of-reads
 use Rattle.id_writers.proofs.emit_id_end.Goals as goal
 
 pub emit_arguments-requires : goal.emit_arguments-requires

@@ -1,18 +1,8 @@
 -- The parts one after another, as the rule has them.
-use borrow.Author.Rules.{rules}
 use mathlib.Core.Path.{◌∙◌}
 use Rattle.context.proofs.Opening.{plain, ◌▸▸◌, writes-by, writes-length}
 use Rattle.emit.specs.Walking.{method_of}
 use Rattle.id_writers.proofs.Laws.{member-named}
-use Rattle.id_writers.proofs.emit_member.Reads as reads
-use Rattle.id_writers.proofs.emit_member.Lts as lts
-use Rattle.pen.proofs.text.Reads as text-reads
-use Rattle.leaf_writers.proofs.fragments.hides_return.Reads as hides-return-reads
-use Rattle.leaf_writers.proofs.fragments.maybe_emit_static.Reads as maybe-emit-static-reads
-use Rattle.emit.proofs.emit_method_args.Reads as emit-method-args-reads
-use Rattle.emit.proofs.emit_return_type.Reads as emit-return-type-reads
-use Rattle.emit.proofs.emit_type_index.Reads as emit-type-index-reads
-use Rattle.leaf_writers.proofs.names.emit_shown_str.Reads as emit-shown-str-reads
 use Rattle.id_writers.proofs.emit_member.Goals as goal
 
 pub emit_type_index-c-requires : goal.emit_type_index-c-requires

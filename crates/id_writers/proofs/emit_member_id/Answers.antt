@@ -1,4 +1,5 @@
 -- The function type is opened in a list of its own, then read.
+use borrow.Enum.Refused.{opened}
 use borrow.Author.Rules.{rules}
 use native.Mathlib.Omega.{arith}
 use mathlib.Core.Path.{sym, ◌∙◌}
@@ -10,7 +11,7 @@ pub returns-then-is_idle : goal.returns-then-is_idle
 returns-then-is_idle c = member-stopped _ _ _ _ _ _ c.open_index-q.ensures (search rules) _ (sym c.is_idle.ensures ∙ c.if-is_idle.true)
 
 pub returns-in_default : goal.returns-in_default
-returns-in_default c = member-open _ _ _ _ _ _ c.open_index-q.ensures (search rules) _ (sym c.is_idle.ensures ∙ c.if-is_idle.false) c.type_at.ensures c.in-Good.is (writes-by (plain c.refuse.ensures) (member-wrong _ _ _ _ _ _ _ _ c.in_default.keys2))
+returns-in_default c = member-open _ _ _ _ _ _ c.open_index-q.ensures (search rules) _ (sym c.is_idle.ensures ∙ c.if-is_idle.false) c.type_at.ensures c.in-Good.is (writes-by (plain c.refuse.ensures) (member-wrong _ _ _ _ _ _ _ _ (opened c.in_default.in_default-own.keys2)))
 
 pub emit_member-requires : goal.emit_member-requires
 emit_member-requires c = (c.list-2-1.given, omega arith)

@@ -1,17 +1,9 @@
 -- The parts one after another, as the rule has them.
-use borrow.Author.Rules.{rules}
 use mathlib.Core.Path.{◌∙◌}
 use Rattle.pen.proofs.Laws.{wrote_none}
 use Rattle.context.proofs.Opening.{plain, ◌▸▸◌, writes-by, writes-length}
 use Rattle.emit.specs.Walking.{method_of}
 use Rattle.id_writers.proofs.Laws.{method-named}
-use Rattle.id_writers.proofs.emit_method.Reads as reads
-use Rattle.id_writers.proofs.emit_method.Lts as lts
-use Rattle.leaf_writers.proofs.fragments.hides_return.Reads as hides-return-reads
-use Rattle.leaf_writers.proofs.fragments.maybe_emit_static.Reads as maybe-emit-static-reads
-use Rattle.emit.proofs.emit_method_args.Reads as emit-method-args-reads
-use Rattle.emit.proofs.emit_return_type.Reads as emit-return-type-reads
-use Rattle.leaf_writers.proofs.names.emit_name_str.Reads as emit-name-str-reads
 use Rattle.id_writers.proofs.emit_method.Goals as goal
 
 pub emit_method_args-requires : goal.emit_method_args-requires

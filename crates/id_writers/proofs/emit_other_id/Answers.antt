@@ -1,19 +1,10 @@
 -- Each kind of id is one of the rule's.
-use borrow.Author.Rules.{rules}
 use Rattle.pen.proofs.Laws.{◌▸◌, wrote_by, wrote-same, wrote-length}
 use Rattle.id_writers.proofs.Laws.{other-function, other-member, other-list, other-string, other-unhandled}
-use Rattle.id_writers.proofs.emit_other_id.Reads as reads
-use Rattle.id_writers.proofs.emit_other_id.Lts as lts
-use Rattle.id_writers.proofs.emit_member_id.Reads as emit-member-id-reads
-use Rattle.id_writers.proofs.emit_string_list.Reads as emit-string-list-reads
-use Rattle.pen.proofs.text.Reads as text-reads
-use Rattle.leaf_writers.proofs.marks.unhandled_scope.Reads as unhandled-scope-reads
-use Rattle.leaf_writers.proofs.names.name_of.Reads as name-of-reads
-use Rattle.leaf_writers.proofs.strings.emit_string.Reads as emit-string-reads
 use Rattle.id_writers.proofs.emit_other_id.Goals as goal
 
 pub returns-in-Function : goal.returns-in-Function
-returns-in-Function c = wrote-same (search (other-function, c.enum_told-1.given, rules))
+returns-in-Function c = wrote-same (other-function _ _ _ _ _ c.in-Function.is)
 
 pub returns-in-MemberFunction : goal.returns-in-MemberFunction
 returns-in-MemberFunction c = wrote_by c.emit_member_id.ensures (other-member _ _ _ _ _ c.in-MemberFunction.is)

@@ -1,14 +1,8 @@
 -- The parts one after another, as the rule has them.
-use borrow.Author.Rules.{rules}
 use mathlib.Core.Path.{◌∙◌}
 use Rattle.pen.proofs.Laws.{wrote_none}
 use Rattle.context.proofs.Opening.{plain, ◌▸▸◌, writes-by, writes-length}
 use Rattle.id_writers.proofs.Laws.{procedure-named}
-use Rattle.id_writers.proofs.emit_procedure.Reads as reads
-use Rattle.id_writers.proofs.emit_procedure.Lts as lts
-use Rattle.id_writers.proofs.emit_arguments.Reads as emit-arguments-reads
-use Rattle.id_writers.proofs.emit_result.Reads as emit-result-reads
-use Rattle.leaf_writers.proofs.names.emit_name_str.Reads as emit-name-str-reads
 use Rattle.id_writers.proofs.emit_procedure.Goals as goal
 
 pub emit_arguments-requires : goal.emit_arguments-requires

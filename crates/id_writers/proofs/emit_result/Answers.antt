@@ -1,12 +1,6 @@
 -- A result is hidden by the flags or since there is none.
-use borrow.Author.Rules.{rules}
 use Rattle.context.proofs.Opening.{writes-by}
 use Rattle.id_writers.proofs.Laws.{result-is}
-use Rattle.id_writers.proofs.emit_result.Reads as reads
-use Rattle.id_writers.proofs.emit_result.Lts as lts
-use Rattle.leaf_writers.proofs.fragments.hides_return.Reads as hides-return-reads
-use Rattle.leaf_writers.proofs.fragments.is_void.Reads as is-void-reads
-use Rattle.emit.proofs.emit_return_type.Reads as emit-return-type-reads
 use Rattle.id_writers.proofs.emit_result.Goals as goal
 
 pub shape_of-seen : goal.shape_of-seen

@@ -9,4 +9,4 @@ use Rattle.measures.proofs.measure_function.Goals as goal
 
 pub returns : goal.returns
 unfolding function_measure
-returns c = (c.function_over.ensures ∙ ap (λ (o : Outcome). of_measure (measure_of o)) (function-over _ _ c.keep_types-bounds.ensures _ _ _ _ _), function-measure-demand _ _ _ _ _)
+returns c = record { result_value = c.function_over.ensures ∙ ap (λ (o : Outcome). of_measure (measure_of o)) (function-over _ _ c.keep_types-bounds.ensures _ _ _ _ _); function_measure_demand = function-measure-demand _ _ _ _ _ }

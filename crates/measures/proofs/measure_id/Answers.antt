@@ -9,4 +9,4 @@ use Rattle.measures.proofs.measure_id.Goals as goal
 
 pub returns : goal.returns
 unfolding id_measure
-returns c = (c.id_over.ensures ∙ ap (λ (o : Outcome). of_measure (measure_of o)) (id-over _ _ c.keep_both.ensures.of_types _ c.keep_both.ensures.of_ids _ _ _ _), id-measure-demand _ _ _ _ _)
+returns c = record { result_value = c.id_over.ensures ∙ ap (λ (o : Outcome). of_measure (measure_of o)) (id-over _ _ c.keep_both.ensures.of_types _ c.keep_both.ensures.of_ids _ _ _ _); id_measure_demand = id-measure-demand _ _ _ _ _ }

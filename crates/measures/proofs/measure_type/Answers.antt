@@ -9,4 +9,4 @@ use Rattle.measures.proofs.measure_type.Goals as goal
 
 pub returns : goal.returns
 unfolding type_measure
-returns c = (c.type_over.ensures ∙ ap (λ (o : Outcome). of_measure (measure_of o)) (type-over _ _ c.keep_types-bounds.ensures _ _ _ _), type-measure-demand _ _ _ _)
+returns c = record { result_value = c.type_over.ensures ∙ ap (λ (o : Outcome). of_measure (measure_of o)) (type-over _ _ c.keep_types-bounds.ensures _ _ _ _); type_measure_demand = type-measure-demand _ _ _ _ }

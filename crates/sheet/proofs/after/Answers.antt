@@ -54,4 +54,4 @@ pub returns-in-Faulty : goal.returns-in-Faulty
 returns-in-Faulty c = c.behind-in-Faulty.ensures ∙ after-faulty _ _ _ c.in-Faulty.is
 
 pub returns-in-End : goal.returns-in-End
-returns-in-End c = c.behind-in-End.ensures ∙ after-end _ _ (search (c.enum_told-1.given, rules))
+returns-in-End c = c.behind-in-End.ensures ∙ after-end _ _ c.in-End.is

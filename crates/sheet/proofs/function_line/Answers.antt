@@ -20,7 +20,7 @@ pub overflow_add-s-2 : goal.overflow_add-s-2
 overflow_add-s-2 c = omega (arith, c.requires)
 
 pub answer_line-requires : goal.answer_line-requires
-answer_line-requires c = answer-fits c.args.line.now c.requires.0 c.function_over-a.new.1.1.1.0 _ _ c.function_over-a.ensures (search rules)
+answer_line-requires c = answer-fits c.args.line.now c.requires.0 c.function_over-a.new.out _ _ c.function_over-a.ensures (search rules)
 
 pub returns : goal.returns
-returns c = c.answer_line.ensures ∙ answer-behind _ _ c.function_over-a.new.1.1.1.0 _ _ c.function_over-a.ensures (search rules) c.args.line.now (drop 4096 (drop 27 c.args.line.now)) (omega (arith, c.requires)) ∙ ap (outcome_line _) (function-room _ _ _ _ _ _ _ c.given_name-name.ensures (part_length c.args.line.now c.requires.0))
+returns c = c.answer_line.ensures ∙ answer-behind _ _ c.function_over-a.new.out _ _ c.function_over-a.ensures (search rules) c.args.line.now (drop 4096 (drop 27 c.args.line.now)) (omega (arith, c.requires)) ∙ ap (outcome_line _) (function-room _ _ _ _ _ _ _ c.given_name-name.ensures (part_length c.args.line.now c.requires.0))

@@ -14,22 +14,22 @@ pub slice_bounds-text-end : goal.slice_bounds-text-end
 slice_bounds-text-end c = omega (arith, c.requires)
 
 pub answer_line-requires : goal.answer_line-requires
-answer_line-requires c = answer-fits c.args.line.now c.requires.0 c.type_over-a.new.1.1.1.0 _ _ c.type_over-a.ensures (search rules)
+answer_line-requires c = answer-fits c.args.line.now c.requires.0 c.type_over-a.new.out _ _ c.type_over-a.ensures (search rules)
 
 pub slice_bounds-text-end-in-IdText : goal.slice_bounds-text-end-in-IdText
 slice_bounds-text-end-in-IdText c = omega (arith, c.requires)
 
 pub answer_line-requires-in-IdText : goal.answer_line-requires-in-IdText
-answer_line-requires-in-IdText c = answer-fits c.args.line.now c.requires.0 c.id_over-a.new.1.1.1.1.0 _ _ c.id_over-a.ensures (search rules)
+answer_line-requires-in-IdText c = answer-fits c.args.line.now c.requires.0 c.id_over-a.new.out _ _ c.id_over-a.ensures (search rules)
 
 pub refused_line-requires : goal.refused_line-requires
 refused_line-requires c = omega (arith, c.requires)
 
 pub returns-in-TypeText : goal.returns-in-TypeText
-returns-in-TypeText c = c.answer_line.ensures ∙ answer-behind _ _ c.type_over-a.new.1.1.1.0 _ _ c.type_over-a.ensures (search rules) c.args.line.now (drop 4096 (drop 27 c.args.line.now)) (omega (arith, c.requires)) ∙ ap (outcome_line _) (type-room _ _ _ _ _ (part_length c.args.line.now c.requires.0)) ∙ line-type _ _ _ _ _ c.in-TypeText.is
+returns-in-TypeText c = c.answer_line.ensures ∙ answer-behind _ _ c.type_over-a.new.out _ _ c.type_over-a.ensures (search rules) c.args.line.now (drop 4096 (drop 27 c.args.line.now)) (omega (arith, c.requires)) ∙ ap (outcome_line _) (type-room _ _ _ _ _ (part_length c.args.line.now c.requires.0)) ∙ line-type _ _ _ _ _ c.in-TypeText.is
 
 pub returns-in-IdText : goal.returns-in-IdText
-returns-in-IdText c = c.answer_line-in-IdText.ensures ∙ answer-behind _ _ c.id_over-a.new.1.1.1.1.0 _ _ c.id_over-a.ensures (search rules) c.args.line.now (drop 4096 (drop 27 c.args.line.now)) (omega (arith, c.requires)) ∙ ap (outcome_line _) (id-room _ _ _ _ _ _ (part_length c.args.line.now c.requires.0)) ∙ line-id _ _ _ _ _ c.in-IdText.is
+returns-in-IdText c = c.answer_line-in-IdText.ensures ∙ answer-behind _ _ c.id_over-a.new.out _ _ c.id_over-a.ensures (search rules) c.args.line.now (drop 4096 (drop 27 c.args.line.now)) (omega (arith, c.requires)) ∙ ap (outcome_line _) (id-room _ _ _ _ _ _ (part_length c.args.line.now c.requires.0)) ∙ line-id _ _ _ _ _ c.in-IdText.is
 
 pub returns-in-FunctionText : goal.returns-in-FunctionText
 returns-in-FunctionText c = c.function_line.ensures ∙ line-function _ _ _ _ _ c.in-FunctionText.is
@@ -41,7 +41,7 @@ pub returns-in-Faulty : goal.returns-in-Faulty
 returns-in-Faulty c = c.refused_line.ensures ∙ line-faulty _ _ _ _ _ c.in-Faulty.is
 
 pub returns-in-End : goal.returns-in-End
-returns-in-End c = named_none _ _ c.no_line.ensures.1 (line-end _ _ _ _ (search (c.enum_told-1.given, rules)))
+returns-in-End c = named_none _ _ c.no_line.ensures.1 (line-end _ _ _ _ c.in-End.is)
 
 pub returns-in-Flags : goal.returns-in-Flags
 returns-in-Flags c = named_none _ _ c.no_line-in-Flags.ensures.1 (line-flags _ _ _ _ _ c.in-Flags.is)

@@ -4,4 +4,4 @@ use borrow.Author.Rules.{rules}
 use Rattle.sheet.proofs.print_over.Goals as goal
 
 pub returns : goal.returns
-returns c = (c.put_lines.ensures, continues _ _ _ (sheet-short _ (bounded-over _ _ _) _))
+returns c = record { result_after = c.put_lines.ensures; continues_over = continues _ _ _ (sheet-short _ (bounded-over _ _ _) _) }

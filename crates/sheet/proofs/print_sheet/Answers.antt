@@ -6,4 +6,4 @@ use borrow.Author.Rules.{rules}
 use Rattle.sheet.proofs.print_sheet.Goals as goal
 
 pub returns : goal.returns
-returns c = (c.print_over.ensures.0 ∙ ap (laid_out _) (fit-kept-of _ _ c.args.sheet.now _ c.keep_both.ensures c.args.skip _), continues _ _ _ (sheet-short _ (bounded-to _ _) _))
+returns c = record { result_after = c.print_over.ensures.result_after ∙ ap (laid_out _) (fit-kept-of _ _ c.args.sheet.now _ c.keep_both.ensures c.args.skip _); sheet_continues = continues _ _ _ (sheet-short _ (bounded-to _ _) _) }

@@ -26,4 +26,4 @@ pub copy-requires : goal.copy-requires
 copy-requires c = simp (length-take, length-drop) (omega (arith, c.requires))
 
 pub returns : goal.returns
-returns c = written c.args.out.now c.args.at c.args.bs.now c.copy.new.0 ((c.args.at + length c.args.bs.now) - c.args.at) c.if-n-out.false (omega arith) c.copy.ensures
+returns c = written c.args.out.now c.args.at c.args.bs.now c.copy.new.to ((c.args.at + length c.args.bs.now) - c.args.at) c.if-n-out.false (omega arith) c.copy.ensures

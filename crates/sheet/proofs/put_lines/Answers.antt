@@ -12,16 +12,16 @@ pub loop-s-init : goal.loop-s-init
 loop-s-init c = (rw c.first_state-s.ensures (going-first _ _ _ _ (omega arith)), refl)
 
 pub returns-in-Over : goal.returns-in-Over
-returns-in-Over c = going-over _ _ _ _ c.loop-s.invariant.0 c.command_at-c.ensures c.step_of.ensures (search (c.enum_told-1.given, rules)) c.done.ensures
+returns-in-Over c = going-over _ _ _ _ c.loop-s.invariant.0 c.command_at-c.ensures c.step_of.ensures c.in-Over.is c.done.ensures
 
 pub after-s-requires : goal.after-s-requires
-after-s-requires c = (omega (arith, c.loop-s.invariant.0.short, inside-set _ _ _ _ c.loop-s.invariant.0 c.command_at-c.ensures c.step_of.ensures (search (c.enum_told-in-Setting-1.given, rules))), omega (arith, c.loop-s.invariant.0.short, inside-set _ _ _ _ c.loop-s.invariant.0 c.command_at-c.ensures c.step_of.ensures (search (c.enum_told-in-Setting-1.given, rules)), c.loop-s.invariant.0.low))
+after-s-requires c = (omega (arith, c.loop-s.invariant.0.short, inside-set _ _ _ _ c.loop-s.invariant.0 c.command_at-c.ensures c.step_of.ensures c.in-Setting.is), omega (arith, c.loop-s.invariant.0.short, inside-set _ _ _ _ c.loop-s.invariant.0 c.command_at-c.ensures c.step_of.ensures c.in-Setting.is, c.loop-s.invariant.0.low))
 
 pub loop-s-smaller-in-Setting : goal.loop-s-smaller-in-Setting
-loop-s-smaller-in-Setting c = less-set _ _ _ _ c.loop-s.invariant.0 c.command_at-c.ensures c.step_of.ensures (search (c.enum_told-in-Setting-1.given, rules)) c.after-s.ensures
+loop-s-smaller-in-Setting c = less-set _ _ _ _ c.loop-s.invariant.0 c.command_at-c.ensures c.step_of.ensures c.in-Setting.is c.after-s.ensures
 
 pub loop-s-preserved-in-Setting : goal.loop-s-preserved-in-Setting
-loop-s-preserved-in-Setting c = (going-set _ _ _ _ c.loop-s.invariant.0 c.command_at-c.ensures c.step_of.ensures c.after-s.ensures (search (c.enum_told-in-Setting-1.given, rules)), c.loop-s.invariant.1)
+loop-s-preserved-in-Setting c = (going-set _ _ _ _ c.loop-s.invariant.0 c.command_at-c.ensures c.step_of.ensures c.after-s.ensures c.in-Setting.is, c.loop-s.invariant.1)
 
 pub put_last-q-requires : goal.put_last-q-requires
 put_last-q-requires c = (c.loop-s.invariant.1 ∙ c.requires, (going-at _ _ _ _ c.loop-s.invariant.0, omega (arith, c.loop-s.invariant.0.short, inside-last _ _ _ _ c.loop-s.invariant.0 c.command_at-c.ensures c.step_of.ensures c.in-Last.is, c.loop-s.invariant.0.low)))
@@ -36,19 +36,19 @@ pub returns-in-Last : goal.returns-in-Last
 returns-in-Last c = going-last _ _ _ _ c.loop-s.invariant.0 c.command_at-c.ensures c.step_of.ensures c.in-Last.is (full-as c.if-q.false c.put_last-q.ensures) c.done-in-Last.ensures
 
 pub put_line-q-requires : goal.put_line-q-requires
-put_line-q-requires c = (c.loop-s.invariant.1 ∙ c.requires, (going-at _ _ _ _ c.loop-s.invariant.0, (omega (arith, c.loop-s.invariant.0.short, inside-line _ _ _ _ c.loop-s.invariant.0 c.command_at-c.ensures c.step_of.ensures (search (c.enum_told-in-Line-1.given, rules))), omega (arith, c.loop-s.invariant.0.short, inside-line _ _ _ _ c.loop-s.invariant.0 c.command_at-c.ensures c.step_of.ensures (search (c.enum_told-in-Line-1.given, rules)), c.loop-s.invariant.0.low))))
+put_line-q-requires c = (c.loop-s.invariant.1 ∙ c.requires, (going-at _ _ _ _ c.loop-s.invariant.0, (omega (arith, c.loop-s.invariant.0.short, inside-line _ _ _ _ c.loop-s.invariant.0 c.command_at-c.ensures c.step_of.ensures c.in-Line.is), omega (arith, c.loop-s.invariant.0.short, inside-line _ _ _ _ c.loop-s.invariant.0 c.command_at-c.ensures c.step_of.ensures c.in-Line.is, c.loop-s.invariant.0.low))))
 
 pub returns-then-q-2 : goal.returns-then-q-2
-returns-then-q-2 c = line-full _ _ _ _ c.loop-s.invariant.0 c.command_at-c.ensures c.step_of.ensures (search (c.enum_told-in-Line-1.given, rules)) (full-as c.if-q-2.true c.put_line-q.ensures) c.done-then-q-2.ensures
+returns-then-q-2 c = line-full _ _ _ _ c.loop-s.invariant.0 c.command_at-c.ensures c.step_of.ensures c.in-Line.is (full-as c.if-q-2.true c.put_line-q.ensures) c.done-then-q-2.ensures
 
 pub after-s-requires-in-Line : goal.after-s-requires-in-Line
-after-s-requires-in-Line c = (omega (arith, c.loop-s.invariant.0.short, inside-line _ _ _ _ c.loop-s.invariant.0 c.command_at-c.ensures c.step_of.ensures (search (c.enum_told-in-Line-1.given, rules))), omega (arith, c.loop-s.invariant.0.short, inside-line _ _ _ _ c.loop-s.invariant.0 c.command_at-c.ensures c.step_of.ensures (search (c.enum_told-in-Line-1.given, rules)), c.loop-s.invariant.0.low))
+after-s-requires-in-Line c = (omega (arith, c.loop-s.invariant.0.short, inside-line _ _ _ _ c.loop-s.invariant.0 c.command_at-c.ensures c.step_of.ensures c.in-Line.is), omega (arith, c.loop-s.invariant.0.short, inside-line _ _ _ _ c.loop-s.invariant.0 c.command_at-c.ensures c.step_of.ensures c.in-Line.is, c.loop-s.invariant.0.low))
 
 pub loop-s-smaller : goal.loop-s-smaller
-loop-s-smaller c = less-line _ _ _ _ c.loop-s.invariant.0 c.command_at-c.ensures c.step_of.ensures (search (c.enum_told-in-Line-1.given, rules)) c.after-s-in-Line.ensures
+loop-s-smaller c = less-line _ _ _ _ c.loop-s.invariant.0 c.command_at-c.ensures c.step_of.ensures c.in-Line.is c.after-s-in-Line.ensures
 
 pub loop-s-preserved : goal.loop-s-preserved
-loop-s-preserved c = (going-line _ _ _ _ c.loop-s.invariant.0 c.command_at-c.ensures c.step_of.ensures c.after-s-in-Line.ensures (search (c.enum_told-in-Line-1.given, rules)) (full-as c.if-q-2.false c.put_line-q.ensures), omega (arith, c.loop-s.invariant.1))
+loop-s-preserved c = (going-line _ _ _ _ c.loop-s.invariant.0 c.command_at-c.ensures c.step_of.ensures c.after-s-in-Line.ensures c.in-Line.is (full-as c.if-q-2.false c.put_line-q.ensures), omega (arith, c.loop-s.invariant.1))
 
 pub shape_of-line-in-Over : goal.shape_of-line-in-Over
 shape_of-line-in-Over c = c.loop-s.invariant.1

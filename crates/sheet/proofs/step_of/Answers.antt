@@ -6,7 +6,7 @@ use Rattle.sheet.proofs.step_of.Lts as lts
 use Rattle.sheet.proofs.step_of.Goals as goal
 
 pub returns-in-End : goal.returns-in-End
-returns-in-End c = step_end _ (search (c.enum_told-1.given, rules))
+returns-in-End c = step_end _ c.in-End.is
 
 pub returns-in-Flags : goal.returns-in-Flags
 returns-in-Flags c = step-flags _ _ c.in-Flags.is

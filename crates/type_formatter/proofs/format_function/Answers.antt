@@ -11,4 +11,4 @@ use Rattle.checked_calls.proofs.kept.keep_types.Reads as keep-types-reads
 use Rattle.type_formatter.proofs.format_function.Goals as goal
 
 pub returns : goal.returns
-returns c = (c.function_over.ensures ∙ ap (laid _) (function-over _ _ c.keep_types-bounds.ensures _ _ _ _ _), function-demand _ _ _ _ _)
+returns c = record { result_after = c.function_over.ensures ∙ ap (laid _) (function-over _ _ c.keep_types-bounds.ensures _ _ _ _ _); function_demand = function-demand _ _ _ _ _ }

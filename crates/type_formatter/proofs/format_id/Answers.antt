@@ -11,4 +11,4 @@ use Rattle.checked_calls.proofs.kept.keep_both.Reads as keep-both-reads
 use Rattle.type_formatter.proofs.format_id.Goals as goal
 
 pub returns : goal.returns
-returns c = (c.id_over.ensures ∙ ap (laid _) (id-over _ _ c.keep_both.ensures.of_types _ c.keep_both.ensures.of_ids _ _ _ _), id-demand _ _ _ _ _)
+returns c = record { result_after = c.id_over.ensures ∙ ap (laid _) (id-over _ _ c.keep_both.ensures.of_types _ c.keep_both.ensures.of_ids _ _ _ _); id_demand = id-demand _ _ _ _ _ }

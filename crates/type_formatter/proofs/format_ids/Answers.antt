@@ -7,4 +7,4 @@ use Rattle.batch.proofs.BatchLaws.{id-batch-kept, batch-goes-on}
 use Rattle.type_formatter.proofs.format_ids.Goals as goal
 
 pub returns : goal.returns
-returns c = (c.texts_over.ensures.0 ∙ ap (laid_batch _ _) (id-batch-kept _ _ _ _ _ _ _ _ c.keep_both.ensures), (batch-goes-on _ _ _ _, λ i. id-demand _ _ _ _ i))
+returns c = record { result_after = c.texts_over.ensures.result_after ∙ ap (laid_batch _ _) (id-batch-kept _ _ _ _ _ _ _ _ c.keep_both.ensures); goes_on = batch-goes-on _ _ _ _; by_index = λ i. id-demand _ _ _ _ i }

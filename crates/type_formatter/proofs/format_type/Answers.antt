@@ -11,4 +11,4 @@ use Rattle.checked_calls.proofs.kept.keep_types.Reads as keep-types-reads
 use Rattle.type_formatter.proofs.format_type.Goals as goal
 
 pub returns : goal.returns
-returns c = (c.type_over.ensures ∙ ap (laid _) (type-over _ _ c.keep_types-bounds.ensures _ _ _ _), type-demand _ _ _ _)
+returns c = record { result_after = c.type_over.ensures ∙ ap (laid _) (type-over _ _ c.keep_types-bounds.ensures _ _ _ _); type_demand = type-demand _ _ _ _ }

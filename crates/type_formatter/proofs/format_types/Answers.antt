@@ -7,4 +7,4 @@ use Rattle.batch.proofs.BatchLaws.{type-batch-kept, batch-goes-on}
 use Rattle.type_formatter.proofs.format_types.Goals as goal
 
 pub returns : goal.returns
-returns c = (c.texts_over.ensures.0 ∙ ap (laid_batch _ _) (type-batch-kept _ _ _ _ _ _ _ _ c.keep_types-bounds.ensures), (batch-goes-on _ _ _ _, λ i. type-demand _ _ _ i))
+returns c = record { result_after = c.texts_over.ensures.result_after ∙ ap (laid_batch _ _) (type-batch-kept _ _ _ _ _ _ _ _ c.keep_types-bounds.ensures); goes_on = batch-goes-on _ _ _ _; by_index = λ i. type-demand _ _ _ i }

@@ -11,4 +11,4 @@ use Rattle.checked_calls.proofs.kept.keep_types.Reads as keep-types-reads
 use Rattle.type_formatter.proofs.get_type_size.Goals as goal
 
 pub returns : goal.returns
-returns c = (c.size_over.ensures ∙ ap of_size (size-over _ _ c.keep_types-bounds.ensures _ _), size-ends _ _ _)
+returns c = record { result_value = c.size_over.ensures ∙ ap of_size (size-over _ _ c.keep_types-bounds.ensures _ _); size_finished = size-ends _ _ _ }

@@ -8,4 +8,4 @@ use Rattle.yokberd.proofs.report_text.Reads as report-text-reads
 use Rattle.yokberd.proofs.yokberd_format_type.Goals as goal
 
 pub returns : goal.returns
-returns c = text-left _ _ _ _ c.format_type-a.ensures c.report_text.ensures
+returns c = let e = text-left _ _ _ _ (c.format_type-a.ensures.result_after, c.format_type-a.ensures.type_demand) c.report_text.ensures in record { written_after = e.0; type_demand = e.1 }

@@ -4,4 +4,4 @@ use borrow.Author.Rules.{rules}
 use Rattle.yokberd.proofs.yokberd_placed_get_type_size.Goals as goal
 
 pub returns : goal.returns
-returns c = size-report _ _ c.get_type_size-a.ensures c.report_size.ensures
+returns c = let e = size-report _ _ (c.get_type_size-a.ensures.result_value, c.get_type_size-a.ensures.size_as_plain) c.report_size.ensures in record { bytes_after = e.0; size_as_plain = e.1 }

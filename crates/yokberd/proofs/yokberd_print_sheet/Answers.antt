@@ -7,4 +7,4 @@ use Rattle.sheet.proofs.print_sheet.Reads as print-sheet-reads
 use Rattle.yokberd.proofs.yokberd_print_sheet.Goals as goal
 
 pub returns : goal.returns
-returns c = sheet-left _ _ _ _ c.print_sheet-p.ensures c.report_printed.ensures
+returns c = let e = sheet-left _ _ _ _ (c.print_sheet-p.ensures.result_after, c.print_sheet-p.ensures.sheet_continues) c.report_printed.ensures in record { lines_after = e.0; out_after = e.1.0; sheet_continues = e.1.1 }

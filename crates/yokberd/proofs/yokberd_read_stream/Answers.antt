@@ -4,4 +4,4 @@ use Rattle.yokberd.proofs.Laws.{stream-left}
 use Rattle.yokberd.proofs.yokberd_read_stream.Goals as goal
 
 pub returns : goal.returns
-returns c = stream-left _ _ _ c.read_stream-a.ensures c.report_stream.ensures
+returns c = let e = stream-left _ _ _ c.read_stream-a.ensures c.report_stream.ensures in record { len_after = e.0; out_after = e.1 }

@@ -17,4 +17,4 @@ pub slice_bounds-check_by-end : goal.slice_bounds-check_by-end
 slice_bounds-check_by-end c = omega (arith, c.requires)
 
 pub returns : goal.returns
-returns c = kept-beside _ _ _ c.args.kept.now c.check_by-b.new.1.1.1.0 _ _ (length c.args.kept.now - 19) c.requires.0 c.bounds_of.ensures (search rules) refl refl c.check_by-b.ensures c.store.ensures
+returns c = kept-beside _ _ _ c.args.kept.now c.check_by-b.new.places _ _ (length c.args.kept.now - 19) c.requires.0 c.bounds_of.ensures (search rules) refl refl c.check_by-b.ensures c.store.ensures

@@ -8,4 +8,4 @@ use Rattle.measures.proofs.checked.measure_function.Goals as goal
 
 pub returns : goal.returns
 unfolding function_measure
-returns c = let e = (rw (c.numbers_of-numbers.ensures, c.places_behind-places.ensures) at c.function_over.ensures) in (e, λ k. e ∙ ap (λ (o : Outcome). of_measure (measure_of o)) (function-over _ _ k _ _ _ _ _))
+returns c = let e = (rw (c.numbers_of-numbers.ensures, c.places_behind-places.ensures) at c.function_over.ensures) in record { result_value = e; result_value_2 = λ k. e ∙ ap (λ (o : Outcome). of_measure (measure_of o)) (function-over _ _ k _ _ _ _ _) }

@@ -8,4 +8,4 @@ use Rattle.measures.proofs.checked.measure_id.Goals as goal
 
 pub returns : goal.returns
 unfolding id_measure
-returns c = let e = (rw (c.numbers_of-numbers.ensures, c.places_behind-places.ensures) at c.id_over.ensures) in (e, λ k. e ∙ ap (λ (o : Outcome). of_measure (measure_of o)) (id-over _ _ k.of_types _ k.of_ids _ _ _ _))
+returns c = let e = (rw (c.numbers_of-numbers.ensures, c.places_behind-places.ensures) at c.id_over.ensures) in record { result_value = e; result_value_2 = λ k. e ∙ ap (λ (o : Outcome). of_measure (measure_of o)) (id-over _ _ k.of_types _ k.of_ids _ _ _ _) }

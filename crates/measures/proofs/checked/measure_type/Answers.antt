@@ -8,4 +8,4 @@ use Rattle.measures.proofs.checked.measure_type.Goals as goal
 
 pub returns : goal.returns
 unfolding type_measure
-returns c = let e = (rw (c.numbers_of-numbers.ensures, c.places_behind-places.ensures) at c.type_over.ensures) in (e, λ k. e ∙ ap (λ (o : Outcome). of_measure (measure_of o)) (type-over _ _ k _ _ _ _))
+returns c = let e = (rw (c.numbers_of-numbers.ensures, c.places_behind-places.ensures) at c.type_over.ensures) in record { result_value = e; result_value_2 = λ k. e ∙ ap (λ (o : Outcome). of_measure (measure_of o)) (type-over _ _ k _ _ _ _) }

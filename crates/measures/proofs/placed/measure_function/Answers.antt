@@ -9,8 +9,8 @@ use Rattle.measures.proofs.placed.measure_function.Goals as goal
 
 pub returns-in-Right : goal.returns-in-Right
 unfolding function_placed_measure
-returns-in-Right c = (c.function_over.ensures ∙ ap (λ (o : Outcome). of_measure (measure_of o)) (function-lent _ _ _ (c.keep_lent-bounds.ensures c.args.types.now c.args.places.now c.check_placed-c.ensures.0) (sym c.check_placed-c.ensures.1 ∙ c.in-Right.is) _ _ _ _ _), function-placed-measure-demand _ _ _ _ _ _)
+returns-in-Right c = record { result_value = c.function_over.ensures ∙ ap (λ (o : Outcome). of_measure (measure_of o)) (function-lent _ _ _ (c.keep_lent-bounds.ensures c.args.types.now c.args.places.now c.check_placed-c.ensures.0) (sym c.check_placed-c.ensures.1 ∙ c.in-Right.is) _ _ _ _ _); function_placed_measure_demand = function-placed-measure-demand _ _ _ _ _ _ }
 
 pub returns-in-Wrong : goal.returns-in-Wrong
 unfolding function_placed_measure
-returns-in-Wrong c = ((rw c.check_call.ensures at c.refuse_place.ensures) ∙ ap (λ (o : Outcome). of_measure (measure_of o)) (function-unlent _ _ _ (c.keep_lent-bounds.ensures c.args.types.now c.args.places.now c.check_placed-c.ensures.0) _ (sym c.check_placed-c.ensures.1 ∙ c.in-Wrong.is) _ _ _ _ _), function-placed-measure-demand _ _ _ _ _ _)
+returns-in-Wrong c = record { result_value = (rw c.check_call.ensures at c.refuse_place.ensures) ∙ ap (λ (o : Outcome). of_measure (measure_of o)) (function-unlent _ _ _ (c.keep_lent-bounds.ensures c.args.types.now c.args.places.now c.check_placed-c.ensures.0) _ (sym c.check_placed-c.ensures.1 ∙ c.in-Wrong.is) _ _ _ _ _); function_placed_measure_demand = function-placed-measure-demand _ _ _ _ _ _ }

@@ -31,4 +31,4 @@ pub returns-else-byte-eq19 : goal.returns-else-byte-eq19
 returns-else-byte-eq19 c = c.worded_at.ensures ∙ command-word _ _ c.u8_at.ensures c.in-Value.is c.if-byte-eq2.false c.if-byte-eq19.false
 
 pub returns-in-Outside : goal.returns-in-Outside
-returns-in-Outside c = command-none _ _ c.u8_at.ensures (search (c.enum_told-1.given, rules))
+returns-in-Outside c = command-none _ _ c.u8_at.ensures c.in-Outside.is

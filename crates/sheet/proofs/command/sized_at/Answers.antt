@@ -10,4 +10,4 @@ pub returns-in-Value : goal.returns-in-Value
 returns-in-Value c = sized-value _ _ c.u8_at.ensures c.in-Value.is
 
 pub returns-in-Outside : goal.returns-in-Outside
-returns-in-Outside c = sized-cut _ _ c.u8_at.ensures (search (c.enum_told-1.given, rules))
+returns-in-Outside c = sized-cut _ _ c.u8_at.ensures c.in-Outside.is

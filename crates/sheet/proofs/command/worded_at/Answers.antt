@@ -12,4 +12,4 @@ pub returns-in-Value : goal.returns-in-Value
 returns-in-Value c = c.word_command.ensures ∙ worded-value _ _ _ c.u32_at.ensures c.in-Value.is
 
 pub returns-in-Outside : goal.returns-in-Outside
-returns-in-Outside c = worded-cut _ _ _ c.u32_at.ensures (search (c.enum_told-1.given, rules))
+returns-in-Outside c = worded-cut _ _ _ c.u32_at.ensures c.in-Outside.is

@@ -13,13 +13,13 @@ pub slice_bounds-decimal-end : goal.slice_bounds-decimal-end
 slice_bounds-decimal-end c = omega (arith, c.requires)
 
 pub text_line-requires : goal.text_line-requires
-text_line-requires c = size_fits c.args.line.now c.requires c.decimal-q.new.0 _ c.start.ensures c.decimal-q.ensures (wrote-length c.decimal-q.ensures)
+text_line-requires c = size_fits c.args.line.now c.requires c.decimal-q.new.out _ c.start.ensures c.decimal-q.ensures (wrote-length c.decimal-q.ensures)
 
 pub refused_line-requires : goal.refused_line-requires
 refused_line-requires c = omega (arith, c.requires)
 
 pub returns-in-Bytes : goal.returns-in-Bytes
-returns-in-Bytes c = size-said _ c.args.line.now c.decimal-q.new.0 (drop 4096 (drop 27 c.args.line.now)) _ c.in-Bytes.is (omega (arith, c.requires)) (size-whole c.args.line.now c.requires c.decimal-q.new.0 _ c.start.ensures c.decimal-q.ensures) c.text_line.ensures
+returns-in-Bytes c = size-said _ c.args.line.now c.decimal-q.new.out (drop 4096 (drop 27 c.args.line.now)) _ c.in-Bytes.is (omega (arith, c.requires)) (size-whole c.args.line.now c.requires c.decimal-q.new.out _ c.start.ensures c.decimal-q.ensures) c.text_line.ensures
 
 pub returns-in-Refused : goal.returns-in-Refused
 returns-in-Refused c = size-refused _ _ c.in-Refused.is c.refused_line.ensures

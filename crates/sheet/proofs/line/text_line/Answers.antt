@@ -18,4 +18,4 @@ pub overflow_sub-result : goal.overflow_sub-result
 overflow_sub-result c = omega (arith, c.requires, c.head_before-at.ensures.0)
 
 pub returns : goal.returns
-returns c = text-placed c.args.line.now c.head_before-at.new.0 _ _ _ c.requires.0 (omega (arith, c.requires)) c.head_before-at.ensures.0 c.requires.1 c.head_before-at.ensures.1
+returns c = text-placed c.args.line.now c.head_before-at.new.line _ _ _ c.requires.0 (omega (arith, c.requires)) c.head_before-at.ensures.0 c.requires.1 c.head_before-at.ensures.1

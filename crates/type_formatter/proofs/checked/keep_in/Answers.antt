@@ -24,13 +24,13 @@ pub slice_bounds-check_by-end : goal.slice_bounds-check_by-end
 slice_bounds-check_by-end c = omega (arith, c.split_for.ensures, c.requires)
 
 pub slice_bounds-keep_ids-end : goal.slice_bounds-keep_ids-end
-slice_bounds-keep_ids-end c = front-inside c.args.checked.now c.check_by-a.new.1.1.1.0 (length c.args.checked.now - c.split_for.result) (length c.args.checked.now - (length c.args.checked.now - c.split_for.result)) (omega (arith, c.split_for.ensures, c.requires))
+slice_bounds-keep_ids-end c = front-inside c.args.checked.now c.check_by-a.new.places (length c.args.checked.now - c.split_for.result) (length c.args.checked.now - (length c.args.checked.now - c.split_for.result)) (omega (arith, c.split_for.ensures, c.requires))
 
 pub slice_bounds-keep_ids-end-2 : goal.slice_bounds-keep_ids-end-2
-slice_bounds-keep_ids-end-2 c = sym (length-take-le _ _ (front-inside c.args.checked.now c.check_by-a.new.1.1.1.0 (length c.args.checked.now - c.split_for.result) (length c.args.checked.now - (length c.args.checked.now - c.split_for.result)) (omega (arith, c.split_for.ensures, c.requires))))
+slice_bounds-keep_ids-end-2 c = sym (length-take-le _ _ (front-inside c.args.checked.now c.check_by-a.new.places (length c.args.checked.now - c.split_for.result) (length c.args.checked.now - (length c.args.checked.now - c.split_for.result)) (omega (arith, c.split_for.ensures, c.requires))))
 
 pub keep_ids-requires : goal.keep_ids-requires
-keep_ids-requires c = front-requires c.args.checked.now c.check_by-a.new.1.1.1.0 (length c.args.checked.now - c.split_for.result) (length c.args.checked.now - (length c.args.checked.now - c.split_for.result)) (omega (arith, c.split_for.ensures, c.requires)) (omega (arith, c.split_for.ensures, c.requires)) c.requires.1
+keep_ids-requires c = front-requires c.args.checked.now c.check_by-a.new.places (length c.args.checked.now - c.split_for.result) (length c.args.checked.now - (length c.args.checked.now - c.split_for.result)) (omega (arith, c.split_for.ensures, c.requires)) (omega (arith, c.split_for.ensures, c.requires)) c.requires.1
 
 pub returns : goal.returns
-returns c = kept_in_lem _ _ _ c.args.checked.now c.check_by-a.new.1.1.1.0 c.keep_ids.new.1.1.1.0 _ _ (omega (arith, c.split_for.ensures, c.requires)) (omega (arith, c.split_for.ensures, c.requires)) refl c.check_by-a.ensures c.keep_ids.ensures
+returns c = kept_in_lem _ _ _ c.args.checked.now c.check_by-a.new.places c.keep_ids.new.kept _ _ (omega (arith, c.split_for.ensures, c.requires)) (omega (arith, c.split_for.ensures, c.requires)) refl c.check_by-a.ensures c.keep_ids.ensures

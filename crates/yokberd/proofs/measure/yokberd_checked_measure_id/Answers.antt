@@ -4,4 +4,4 @@ use borrow.Author.Rules.{rules}
 use Rattle.yokberd.proofs.measure.yokberd_checked_measure_id.Goals as goal
 
 pub returns : goal.returns
-returns c = measure-kept _ _ _ c.measure_id-a.ensures c.report_measure.ensures
+returns c = let e = measure-kept _ _ _ (c.measure_id-a.ensures.result_value, c.measure_id-a.ensures.result_value_2) c.report_measure.ensures in record { opened_after = e.0; opened_after_2 = e.1 }
