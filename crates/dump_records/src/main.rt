@@ -11,7 +11,8 @@ use codeview::record::{
     ProcedureType, StringId, TypeData, TypeRead, UnionType, UniqueName,
 };
 use files::say;
-use libc::{STDERR_FILENO, STDOUT_FILENO};
+use std::io;
+use std::rt::{Env, Files};
 use streams::bounds::{bounds_of, look_up_in};
 use streams::chains::check_stream;
 use streams::refusal::{Refusal, StreamKind};
@@ -19,284 +20,311 @@ use streams::stream::{Found, StreamCheck};
 use wire::field::Field32;
 use wire::name::Name;
 
-fn hex(label: &[u8], n: u32) {
-    say(label);
-    say(b"0x");
-    io::print_hex(STDOUT_FILENO, n as u64, 1);
+fn hex(rt: &impl Print, label: &[u8], n: u32) -> io::Result<()> {
+    say(rt, label)?;
+    print!(rt; "0x{n:x}")
 }
 
-fn decimal(label: &[u8], n: u64) {
-    say(label);
-    io::print_decimal(STDOUT_FILENO, n);
+fn decimal(rt: &impl Print, label: &[u8], n: u64) -> io::Result<()> {
+    say(rt, label)?;
+    rt.print(n)
 }
 
-fn mark(on: bool, label: &[u8]) {
+fn mark(rt: &impl Print, on: bool, label: &[u8]) -> io::Result<()> {
     if on {
-        say(label);
+        say(rt, label)?;
     }
+    Ok(())
 }
 
 // A byte of a name; what is not a plain character is printed as its number.
-fn letter(b: u8) {
+fn letter(rt: &impl Print, b: u8) -> io::Result<()> {
     if b < 0x20 {
-        say(b"\\x");
-        io::print_hex(STDOUT_FILENO, b as u64, 2);
-        return;
+        return print!(rt; "\\x{b:02x}");
     }
     if 0x7e < b {
-        say(b"\\x");
-        io::print_hex(STDOUT_FILENO, b as u64, 2);
-        return;
+        return print!(rt; "\\x{b:02x}");
     }
     let one = [b];
-    say(&one);
+    say(rt, &one)
 }
 
-fn letters(s: &[u8], start: usize, len: usize) {
+fn letters(rt: &impl Print, s: &[u8], start: usize, len: usize) -> io::Result<()> {
     let mut at = start;
     let mut left = len;
     while 0 < left {
         if s.len() <= at {
-            return;
+            return Ok(());
         }
-        letter(s[at]);
+        letter(rt, s[at])?;
         at += 1;
         left -= 1;
     }
+    Ok(())
 }
 
-fn name(s: &[u8], label: &[u8], n: Name) {
-    say(label);
-    say(b"`");
-    letters(s, n.start, n.len);
-    say(b"`");
+fn name(rt: &impl Print, s: &[u8], label: &[u8], n: Name) -> io::Result<()> {
+    say(rt, label)?;
+    say(rt, b"`")?;
+    letters(rt, s, n.start, n.len)?;
+    say(rt, b"`")
 }
 
-fn unique(s: &[u8], u: UniqueName) {
+fn unique(rt: &impl Print, s: &[u8], u: UniqueName) -> io::Result<()> {
     if let UniqueName::Given(n) = u {
-        name(s, b" unique=", n);
+        name(rt, s, b" unique=", n)?;
     }
+    Ok(())
 }
 
-fn entry(n: u32) {
-    hex(b" ", n);
+fn entry(rt: &impl Print, n: u32) -> io::Result<()> {
+    hex(rt, b" ", n)
 }
 
-fn list(s: &[u8], e: Entries) {
+fn list(rt: &impl Print, s: &[u8], e: Entries) -> io::Result<()> {
     let mut at = e.start;
     let mut left = e.count;
     while 0 < left {
         if s.len() <= at {
-            return;
+            return Ok(());
         }
         let Field32::Value(n) = wire::field::u32_at(s, at) else {
-            return;
+            return Ok(());
         };
-        entry(n);
+        entry(rt, n)?;
         at += 4;
         left -= 1;
     }
+    Ok(())
 }
 
-fn modifier(m: ModifierType) {
-    hex(b" modifier of=", m.underlying.0);
-    mark(m.constant, b" const");
-    mark(m.volatile, b" volatile");
-    mark(m.unaligned, b" unaligned");
+fn modifier(rt: &impl Print, m: ModifierType) -> io::Result<()> {
+    hex(rt, b" modifier of=", m.underlying.0)?;
+    mark(rt, m.constant, b" const")?;
+    mark(rt, m.volatile, b" volatile")?;
+    mark(rt, m.unaligned, b" unaligned")
 }
 
-fn pointer(p: PointerType) {
-    hex(b" pointer to=", p.underlying.0);
+fn pointer(rt: &impl Print, p: PointerType) -> io::Result<()> {
+    hex(rt, b" pointer to=", p.underlying.0)?;
     let mode = p.mode;
     match mode {
-        PointerMode::Pointer => say(b" mode=pointer"),
-        PointerMode::LValueReference => say(b" mode=reference"),
-        PointerMode::Member => hex(b" mode=member class=", p.class.0),
-        PointerMode::MemberFunction => hex(b" mode=function class=", p.class.0),
-        PointerMode::RValueReference => say(b" mode=rvalue"),
+        PointerMode::Pointer => say(rt, b" mode=pointer")?,
+        PointerMode::LValueReference => say(rt, b" mode=reference")?,
+        PointerMode::Member => hex(rt, b" mode=member class=", p.class.0)?,
+        PointerMode::MemberFunction => hex(rt, b" mode=function class=", p.class.0)?,
+        PointerMode::RValueReference => say(rt, b" mode=rvalue")?,
     }
-    decimal(b" size=", p.size as u64);
-    mark(p.constant, b" const");
-    mark(p.volatile, b" volatile");
+    decimal(rt, b" size=", p.size as u64)?;
+    mark(rt, p.constant, b" const")?;
+    mark(rt, p.volatile, b" volatile")
 }
 
-fn procedure(p: ProcedureType) {
-    hex(b" procedure result=", p.result.0);
-    hex(b" arguments=", p.arguments.0);
-    decimal(b" parameters=", p.parameters as u64);
-    mark(p.constructor, b" constructor");
+fn procedure(rt: &impl Print, p: ProcedureType) -> io::Result<()> {
+    hex(rt, b" procedure result=", p.result.0)?;
+    hex(rt, b" arguments=", p.arguments.0)?;
+    decimal(rt, b" parameters=", p.parameters as u64)?;
+    mark(rt, p.constructor, b" constructor")
 }
 
-fn method(m: MemberFunctionType) {
-    hex(b" method result=", m.result.0);
-    hex(b" class=", m.class.0);
-    hex(b" this=", m.this.0);
-    hex(b" arguments=", m.arguments.0);
-    decimal(b" parameters=", m.parameters as u64);
-    decimal(b" adjustment=", m.adjustment as u64);
-    mark(m.constructor, b" constructor");
+fn method(rt: &impl Print, m: MemberFunctionType) -> io::Result<()> {
+    hex(rt, b" method result=", m.result.0)?;
+    hex(rt, b" class=", m.class.0)?;
+    hex(rt, b" this=", m.this.0)?;
+    hex(rt, b" arguments=", m.arguments.0)?;
+    decimal(rt, b" parameters=", m.parameters as u64)?;
+    decimal(rt, b" adjustment=", m.adjustment as u64)?;
+    mark(rt, m.constructor, b" constructor")
 }
 
-fn enumerate(s: &[u8], e: EnumerateType) {
-    decimal(b" enumerate bits=", e.value);
-    decimal(b" width=", e.width as u64);
-    name(s, b" name=", e.name);
+fn enumerate(rt: &impl Print, s: &[u8], e: EnumerateType) -> io::Result<()> {
+    decimal(rt, b" enumerate bits=", e.value)?;
+    decimal(rt, b" width=", e.width as u64)?;
+    name(rt, s, b" name=", e.name)
 }
 
-fn array(s: &[u8], a: ArrayType) {
-    hex(b" array of=", a.element.0);
-    hex(b" by=", a.indexing.0);
-    decimal(b" size=", a.size);
-    name(s, b" name=", a.name);
+fn array(rt: &impl Print, s: &[u8], a: ArrayType) -> io::Result<()> {
+    hex(rt, b" array of=", a.element.0)?;
+    hex(rt, b" by=", a.indexing.0)?;
+    decimal(rt, b" size=", a.size)?;
+    name(rt, s, b" name=", a.name)
 }
 
-fn class(s: &[u8], c: ClassType) {
+fn class(rt: &impl Print, s: &[u8], c: ClassType) -> io::Result<()> {
     let kind = c.kind;
     match kind {
-        ClassKind::Class => say(b" class"),
-        ClassKind::Struct => say(b" struct"),
-        ClassKind::Interface => say(b" interface"),
+        ClassKind::Class => say(rt, b" class")?,
+        ClassKind::Struct => say(rt, b" struct")?,
+        ClassKind::Interface => say(rt, b" interface")?,
     }
-    decimal(b" size=", c.size);
-    hex(b" fields=", c.fields.0);
-    hex(b" derived=", c.derived.0);
-    hex(b" shape=", c.shape.0);
-    mark(c.forward, b" forward");
-    name(s, b" name=", c.name);
+    decimal(rt, b" size=", c.size)?;
+    hex(rt, b" fields=", c.fields.0)?;
+    hex(rt, b" derived=", c.derived.0)?;
+    hex(rt, b" shape=", c.shape.0)?;
+    mark(rt, c.forward, b" forward")?;
+    name(rt, s, b" name=", c.name)?;
     let u = c.unique;
-    unique(s, u);
+    unique(rt, s, u)
 }
 
-fn union_type(s: &[u8], u: UnionType) {
-    decimal(b" union size=", u.size);
-    hex(b" fields=", u.fields.0);
-    mark(u.forward, b" forward");
-    name(s, b" name=", u.name);
+fn union_type(rt: &impl Print, s: &[u8], u: UnionType) -> io::Result<()> {
+    decimal(rt, b" union size=", u.size)?;
+    hex(rt, b" fields=", u.fields.0)?;
+    mark(rt, u.forward, b" forward")?;
+    name(rt, s, b" name=", u.name)?;
     let q = u.unique;
-    unique(s, q);
+    unique(rt, s, q)
 }
 
-fn enumeration(s: &[u8], e: EnumerationType) {
-    hex(b" enum of=", e.underlying.0);
-    hex(b" fields=", e.fields.0);
-    mark(e.forward, b" forward");
-    name(s, b" name=", e.name);
+fn enumeration(rt: &impl Print, s: &[u8], e: EnumerationType) -> io::Result<()> {
+    hex(rt, b" enum of=", e.underlying.0)?;
+    hex(rt, b" fields=", e.fields.0)?;
+    mark(rt, e.forward, b" forward")?;
+    name(rt, s, b" name=", e.name)?;
     let q = e.unique;
-    unique(s, q);
+    unique(rt, s, q)
 }
 
-fn type_data(s: &[u8], t: TypeData) {
+fn type_data(rt: &impl Print, s: &[u8], t: TypeData) -> io::Result<()> {
     match t {
-        TypeData::Primitive(_) => say(b" primitive"),
-        TypeData::Modifier(m) => modifier(m),
-        TypeData::Pointer(p) => pointer(p),
-        TypeData::Procedure(p) => procedure(p),
-        TypeData::MemberFunction(m) => method(m),
+        TypeData::Primitive(_) => say(rt, b" primitive"),
+        TypeData::Modifier(m) => modifier(rt, m),
+        TypeData::Pointer(p) => pointer(rt, p),
+        TypeData::Procedure(p) => procedure(rt, p),
+        TypeData::MemberFunction(m) => method(rt, m),
         TypeData::ArgumentList(e) => {
-            say(b" arguments");
-            list(s, e);
+            say(rt, b" arguments")?;
+            list(rt, s, e)
         }
-        TypeData::Enumerate(e) => enumerate(s, e),
-        TypeData::Array(a) => array(s, a),
-        TypeData::Class(c) => class(s, c),
-        TypeData::Union(u) => union_type(s, u),
-        TypeData::Enumeration(e) => enumeration(s, e),
-        TypeData::Unhandled(_) => say(b" unhandled"),
+        TypeData::Enumerate(e) => enumerate(rt, s, e),
+        TypeData::Array(a) => array(rt, s, a),
+        TypeData::Class(c) => class(rt, s, c),
+        TypeData::Union(u) => union_type(rt, s, u),
+        TypeData::Enumeration(e) => enumeration(rt, s, e),
+        TypeData::Unhandled(_) => say(rt, b" unhandled"),
     }
 }
 
-fn function_id(s: &[u8], f: FunctionId) {
-    hex(b" function scope=", f.scope.0);
-    hex(b" type=", f.function.0);
-    name(s, b" name=", f.name);
+fn function_id(rt: &impl Print, s: &[u8], f: FunctionId) -> io::Result<()> {
+    hex(rt, b" function scope=", f.scope.0)?;
+    hex(rt, b" type=", f.function.0)?;
+    name(rt, s, b" name=", f.name)
 }
 
-fn member_id(s: &[u8], m: MemberFunctionId) {
-    hex(b" member parent=", m.parent.0);
-    hex(b" type=", m.function.0);
-    name(s, b" name=", m.name);
+fn member_id(rt: &impl Print, s: &[u8], m: MemberFunctionId) -> io::Result<()> {
+    hex(rt, b" member parent=", m.parent.0)?;
+    hex(rt, b" type=", m.function.0)?;
+    name(rt, s, b" name=", m.name)
 }
 
-fn string_id(s: &[u8], t: StringId) {
-    hex(b" string list=", t.list.0);
-    name(s, b" name=", t.name);
+fn string_id(rt: &impl Print, s: &[u8], t: StringId) -> io::Result<()> {
+    hex(rt, b" string list=", t.list.0)?;
+    name(rt, s, b" name=", t.name)
 }
 
-fn id_data(s: &[u8], d: IdData) {
+fn id_data(rt: &impl Print, s: &[u8], d: IdData) -> io::Result<()> {
     match d {
-        IdData::Function(f) => function_id(s, f),
-        IdData::MemberFunction(m) => member_id(s, m),
+        IdData::Function(f) => function_id(rt, s, f),
+        IdData::MemberFunction(m) => member_id(rt, s, m),
         IdData::StringList(e) => {
-            say(b" strings");
-            list(s, e);
+            say(rt, b" strings")?;
+            list(rt, s, e)
         }
-        IdData::String(t) => string_id(s, t),
-        IdData::Unhandled(_) => say(b" unhandled"),
+        IdData::String(t) => string_id(rt, s, t),
+        IdData::Unhandled(_) => say(rt, b" unhandled"),
     }
 }
 
 // Why a record was not decoded.
-fn refused(f: Refusal) {
+fn refused(rt: &impl Print, f: Refusal) -> io::Result<()> {
     match f {
-        Refusal::Malformed(_) => say(b" malformed"),
-        Refusal::UnlistedKind(_) => say(b" unlisted"),
-        _ => say(b" missing"),
+        Refusal::Malformed(_) => say(rt, b" malformed"),
+        Refusal::UnlistedKind(_) => say(rt, b" unlisted"),
+        _ => say(rt, b" missing"),
     }
 }
 
-fn type_line(s: &[u8], bounds: &[u32], places: &[u32], index: u32) {
+fn type_line(
+    rt: &impl Print,
+    s: &[u8],
+    bounds: &[u32],
+    places: &[u32],
+    index: u32,
+) -> io::Result<()> {
     match codeview::types::type_at(s, bounds, places, TypeIndex(index)) {
-        TypeRead::Good(t) => type_data(s, t),
-        TypeRead::Refused(f) => refused(f),
+        TypeRead::Good(t) => type_data(rt, s, t),
+        TypeRead::Refused(f) => refused(rt, f),
     }
 }
 
-fn id_line(s: &[u8], bounds: &[u32], places: &[u32], index: u32) {
+fn id_line(
+    rt: &impl Print,
+    s: &[u8],
+    bounds: &[u32],
+    places: &[u32],
+    index: u32,
+) -> io::Result<()> {
     match codeview::ids::id_at(s, bounds, places, IdIndex(index)) {
-        IdRead::Good(d) => id_data(s, d),
-        IdRead::Refused(f) => refused(f),
+        IdRead::Good(d) => id_data(rt, s, d),
+        IdRead::Refused(f) => refused(rt, f),
     }
 }
 
-fn line(s: &[u8], bounds: &[u32], places: &[u32], which: StreamKind, index: u32) {
-    hex(b"", index);
+fn line(
+    rt: &impl Print,
+    s: &[u8],
+    bounds: &[u32],
+    places: &[u32],
+    which: StreamKind,
+    index: u32,
+) -> io::Result<()> {
+    hex(rt, b"", index)?;
     if let Found::Record {
         kind,
         start: _,
         end: _,
     } = look_up_in(s, bounds, places, which, index)
     {
-        hex(b" ", kind as u32);
+        hex(rt, b" ", kind as u32)?;
     }
     match which {
-        StreamKind::Types => type_line(s, bounds, places, index),
-        StreamKind::Ids => id_line(s, bounds, places, index),
+        StreamKind::Types => type_line(rt, s, bounds, places, index)?,
+        StreamKind::Ids => id_line(rt, s, bounds, places, index)?,
     }
-    say(b"\n");
+    say(rt, b"\n")
 }
 
-fn lines(s: &[u8], bounds: &[u32], places: &[u32], which: StreamKind, first: u32, end: u32) {
+fn lines(
+    rt: &impl Print,
+    s: &[u8],
+    bounds: &[u32],
+    places: &[u32],
+    which: StreamKind,
+    first: u32,
+    end: u32,
+) -> io::Result<()> {
     let mut index = first;
     while index < end {
-        line(s, bounds, places, which, index);
+        line(rt, s, bounds, places, which, index)?;
         index += 1;
     }
+    Ok(())
 }
 
 // The one stream stands for both. Its places are the types'; ids are walked to from the first.
-fn table(s: &[u8], which: StreamKind) {
+fn table(rt: &impl Print, s: &[u8], which: StreamKind) -> io::Result<()> {
     let mut places = [0u32; 256];
     let a = check_stream(s, which, &mut places);
     let c = a.check;
     match c {
         StreamCheck::Good(stream) => {
             let bounds = bounds_of(a, a, 0);
-            lines(s, &bounds, &places, which, stream.first, stream.end);
+            lines(rt, s, &bounds, &places, which, stream.first, stream.end)
         }
         StreamCheck::Refused(f) => {
-            decimal(b"refused ", f.number() as u64);
-            hex(b" ", f.detail());
-            say(b"\n");
+            decimal(rt, b"refused ", f.number() as u64)?;
+            hex(rt, b" ", f.detail())?;
+            say(rt, b"\n")
         }
     }
 }
@@ -307,75 +335,66 @@ fn room() -> [u8; 1_048_576] {
 }
 
 // A file as a table. Of one that is longer than the buffer only the start is read, and that is said.
-fn show(path: &[u8], which: StreamKind) {
-    let fd = os::open_read(path);
-    if fd < 0 {
-        os::fail(path);
-        return;
-    }
+fn show<R: Files + Print + Eprint>(rt: &R, path: &[u8], which: StreamKind) -> io::Result<()> {
     let mut buffer = room();
-    let n = io::read_full(fd, &mut buffer);
-    libc::close(fd);
+    let Some(n) = files::load_opened(rt, path, &mut buffer)? else {
+        return Ok(());
+    };
     if n == 1_048_576 {
-        io::write_all(
-            STDERR_FILENO,
-            b"dump_records: only the first 1,048,576 bytes are read\n",
-        );
+        eprintln!(rt; "dump_records: only the first 1,048,576 bytes are read")?;
     }
-    table(&buffer[..n], which);
+    table(rt, &buffer[..n], which)
 }
 
 // The table of a file, under a line that names it.
-fn titled(word: &[u8], path: &[u8]) {
-    say(word);
-    say(b" ");
-    say(path);
-    say(b"\n");
-    if check::same(word, b"ids") {
-        show(path, StreamKind::Ids);
+fn titled<R: Files + Print + Eprint>(rt: &R, word: &[u8], path: &[u8]) -> io::Result<()> {
+    say(rt, word)?;
+    say(rt, b" ")?;
+    say(rt, path)?;
+    say(rt, b"\n")?;
+    if word == b"ids".as_slice() {
+        show(rt, path, StreamKind::Ids)
     } else {
-        show(path, StreamKind::Types);
+        show(rt, path, StreamKind::Types)
     }
 }
 
-fn usage() {
-    io::write_all(
-        STDERR_FILENO,
-        b"dump_records: prints the records of type and id streams\nusage: dump_records types FILE | ids FILE ...    streams 2 and 4 of a .pdb, as `llvm-pdbutil export` writes them\n",
-    );
+fn usage(rt: &impl Eprint) -> io::Result<()> {
+    eprintln!(rt; "dump_records: prints the records of type and id streams")?;
+    eprintln!(rt;
+        "usage: dump_records types FILE | ids FILE ...    streams 2 and 4 of a .pdb, as `llvm-pdbutil export` writes them"
+    )
 }
 
-fn pair(i: usize)
+fn pair<R: Env + Files + Print + Eprint>(rt: &R, i: usize) -> io::Result<()>
     requires { i < 4096 }
 {
-    let mut word = io::buffer();
-    let n = os::arg(i, &mut word);
-    let mut path = io::buffer();
-    let m = os::arg(i + 1, &mut path);
-    if check::same(&word[..n], b"types") {
-        titled(&word[..n], &path[..m]);
-        return;
+    let mut word = files::buffer();
+    let n = files::argument(rt, i, &mut word).unwrap_or(0);
+    let mut path = files::buffer();
+    let m = files::argument(rt, i + 1, &mut path).unwrap_or(0);
+    if &word[..n] == b"types".as_slice() {
+        return titled(rt, &word[..n], &path[..m]);
     }
-    if check::same(&word[..n], b"ids") {
-        titled(&word[..n], &path[..m]);
-        return;
+    if &word[..n] == b"ids".as_slice() {
+        return titled(rt, &word[..n], &path[..m]);
     }
-    usage();
+    usage(rt)
 }
 
 // Words come with their files, so with the program's own name the number of arguments is odd.
-fn main() {
-    let count = os::arg_count();
+fn main(rt: HostRuntime) -> io::Result<()> {
+    let count = files::argument_count(&rt);
     if (count < 3) | (count % 2 == 0) {
-        usage();
-        return;
+        return usage(&rt);
     }
     let mut i = 1;
     while i < count {
         if 4096 <= i {
-            return;
+            return Ok(());
         }
-        pair(i);
+        pair(&rt, i)?;
         i += 2;
     }
+    Ok(())
 }

@@ -1,41 +1,79 @@
-// What the programs share: reading files up to a limit, printing bytes, numbers and refusals, and a look at what a call left of a buffer. No contract can say
-// what is read or printed.
+// What the programs share: arguments, reading files up to a limit, printing bytes, numbers and refusals, and a look at what a call left of a buffer. No
+// contract can say what is read or printed.
 #![tactic(auto)]
 
-ghost use Rattle.std.specs.Prelude.{◌≡◌, min, length};
-ghost use Rattle.io.specs.Counts.{IsPrefixLen};
+ghost use Rattle.std.specs.Prelude.{◌≡◌, IfOk, IfSome, length, min};
+ghost use Rattle.files.specs.Counts.{IsPrefixLen};
 
-use libc::STDOUT_FILENO;
+use std::env::FillError;
+use std::io::{Cursor, Read, Write};
+use std::rt::{Env, Files};
+use std::{fs, io, str};
 use streams::refusal::Refusal;
 use wire::field::Field32;
 
+// Room for a path or an argument.
+pub fn buffer() -> [u8; 4096]
+    ensures { 4096 ≡ length result }
+{
+    [0; 4096]
+}
+
+pub fn large_buffer() -> [u8; 65_536]
+    ensures { 65536 ≡ length result }
+{
+    [0; 65_536]
+}
+
+// Puts an argument of the program at the start of a slice and answers its length, or 0 where it is longer than the slice.
+pub fn argument(rt: &impl Env, i: usize, room: &mut [u8]) -> Option<usize>
+    ensures { IfSome result (λ n. IsPrefixLen n room.new) }
+{
+    match rt.arg(i, room) {
+        Ok(n) => Some(n),
+        Err(FillError::TooLong) => Some(0),
+        Err(FillError::NotPresent) => None,
+    }
+}
+
+// How many arguments there are, the program's own name among them.
+pub fn argument_count(rt: &impl Env) -> usize {
+    let mut none = [0u8; 1];
+    for i in 0..usize::MAX {
+        if argument(rt, i, &mut none).is_none() {
+            return i;
+        }
+    }
+    usize::MAX
+}
+
 // Prints bytes on standard output.
-pub fn say(text: &[u8]) {
-    io::write_all(STDOUT_FILENO, text);
+pub fn say(rt: &impl Print, text: &[u8]) -> io::Result<()> {
+    rt.write_all(text)
 }
 
 // A label and a number behind it.
-pub fn decimal(label: &[u8], n: u64) {
-    say(label);
-    io::print_decimal(STDOUT_FILENO, n);
+pub fn decimal(rt: &impl Print, label: &[u8], n: u64) -> io::Result<()> {
+    say(rt, label)?;
+    rt.print(n)
 }
 
-pub fn hex(label: &[u8], n: u32) {
-    say(label);
-    io::print_hex(STDOUT_FILENO, n as u64, 1);
+pub fn hex(rt: &impl Print, label: &[u8], n: u32) -> io::Result<()> {
+    say(rt, label)?;
+    print!(rt; "{n:x}")
 }
 
 // Number and detail of a refusal.
-pub fn refused(f: Refusal) {
-    decimal(b" ", f.number() as u64);
-    hex(b" 0x", f.detail());
+pub fn refused(rt: &impl Print, f: Refusal) -> io::Result<()> {
+    decimal(rt, b" ", f.number() as u64)?;
+    hex(rt, b" 0x", f.detail())
 }
 
 // The line before what is printed of a case.
-pub fn title(name: &[u8]) {
-    say(b"== ");
-    say(name);
-    say(b"\n");
+pub fn title(rt: &impl Print, name: &[u8]) -> io::Result<()> {
+    say(rt, b"== ")?;
+    say(rt, name)?;
+    say(rt, b"\n")
 }
 
 // A buffer is lent full of this byte, so that what a call leaves alone can be seen.
@@ -59,11 +97,11 @@ pub fn all(out: &[u8], from: usize, byte: u8) -> bool {
     true
 }
 
-pub fn judge(right: bool) {
+pub fn judge(rt: &impl Print, right: bool) -> io::Result<()> {
     if right {
-        return;
+        return Ok(());
     }
-    say(b" buffer wrong");
+    say(rt, b" buffer wrong")
 }
 
 // A number, or a slice's length where that is less.
@@ -90,7 +128,7 @@ pub fn numbers(from: &[u8], to: &mut [u32]) -> usize {
             return n;
         };
         to[n] = value;
-        at = std::num::wrapping_add_usize(at, 4);
+        at = at.wrapping_add(4);
         n += 1;
     }
     n
@@ -121,44 +159,115 @@ fn make_path(path: &mut [u8], name: &[u8], ending: &[u8]) -> usize
 }
 
 // As much of an open file as the slice takes, and how much that is.
-fn take(fd: i32, room: &mut [u8]) -> usize
-    ensures { IsPrefixLen result room.new }
+fn take(mut file: impl Read + Drop, room: &mut [u8]) -> io::Result<usize>
+    ensures read { IfOk result (λ n. IsPrefixLen n room.new) }
+    ensures room_kept { length room.new ≡ length room.old }
 {
-    let n = io::read_full(fd, room);
-    libc::close(fd);
-    n
+    let mut done = 0;
+    while done < room.len() {
+        let n = file.read(&mut room[done..])?;
+        if n == 0 {
+            break;
+        }
+        done += n;
+    }
+    Ok(done)
 }
 
-// As much of a file as the slice takes. One that can't be opened counts as one of no bytes and is named on standard error.
-pub fn load(path: &[u8], room: &mut [u8]) -> usize
-    ensures { IsPrefixLen result room.new }
-{
-    let fd = os::open_read(path);
-    if fd < 0 {
-        os::fail(path);
-        return 0;
+// A file that is open for reading. A path that is not text has none.
+fn open<R: Files>(rt: &R, path: &[u8]) -> io::Result<R::File> {
+    match str::from_utf8(path) {
+        Ok(text) => fs::open(rt, text),
+        Err(_) => Err(io::Error::from(io::ErrorKind::InvalidFilename)),
     }
-    take(fd, room)
+}
+
+// The system's words for an error. Behind them the text of an error has its number in brackets, or where it has none the zeros of the buffer.
+fn words(text: &[u8]) -> &str {
+    let Ok(text) = str::from_utf8(text) else {
+        return "";
+    };
+    if let Some((words, _)) = text.split_once(" (os error ") {
+        return words;
+    }
+    match text.split_once("\0") {
+        Some((words, _)) => words,
+        None => text,
+    }
+}
+
+// Names on standard error a file that can't be opened, and why.
+fn fail(rt: &impl Eprint, path: &[u8], error: io::Error) -> io::Result<()> {
+    let mut text = Cursor::new([0u8; 256]);
+    write!(text, "{error}")?;
+    let why = words(text.get_ref());
+    match str::from_utf8(path) {
+        Ok(name) => eprintln!(rt; "{name}: {why}"),
+        Err(_) => eprintln!(rt; "{}: {why}", path.escape_ascii()),
+    }
+}
+
+// As much of a file as the slice takes. Of one that can't be opened there is none, and it is named on standard error.
+pub fn load_opened<R: Files + Eprint>(
+    rt: &R,
+    path: &[u8],
+    room: &mut [u8],
+) -> io::Result<Option<usize>>
+    ensures read { IfOk result (λ o. IfSome o (λ n. IsPrefixLen n room.new)) }
+    ensures room_kept { length room.new ≡ length room.old }
+{
+    match open(rt, path) {
+        Ok(file) => {
+            let n = take(file, room)?;
+            Ok(Some(n))
+        }
+        Err(error) => {
+            fail(rt, path, error)?;
+            Ok(None)
+        }
+    }
+}
+
+// The same, but one that can't be opened counts as one of no bytes.
+pub fn load<R: Files + Eprint>(rt: &R, path: &[u8], room: &mut [u8]) -> io::Result<usize>
+    ensures read { IfOk result (λ n. IsPrefixLen n room.new) }
+    ensures room_kept { length room.new ≡ length room.old }
+{
+    match load_opened(rt, path, room)? {
+        Some(n) => Ok(n),
+        None => Ok(0),
+    }
 }
 
 // The same of a file whose name is given in two parts.
-pub fn load_named(name: &[u8], ending: &[u8], room: &mut [u8]) -> usize
-    ensures { IsPrefixLen result room.new }
+pub fn load_named<R: Files + Eprint>(
+    rt: &R,
+    name: &[u8],
+    ending: &[u8],
+    room: &mut [u8],
+) -> io::Result<usize>
+    ensures read { IfOk result (λ n. IsPrefixLen n room.new) }
+    ensures room_kept { length room.new ≡ length room.old }
 {
-    let mut path = io::buffer();
+    let mut path = buffer();
     let n = make_path(&mut path, name, ending);
-    load(&path[..n], room)
+    load(rt, &path[..n], room)
 }
 
 // The same, but nothing is said of a file that can't be opened.
-pub fn load_if_there(name: &[u8], ending: &[u8], room: &mut [u8]) -> usize
-    ensures { IsPrefixLen result room.new }
+pub fn load_if_there(
+    rt: &impl Files,
+    name: &[u8],
+    ending: &[u8],
+    room: &mut [u8],
+) -> io::Result<usize>
+    ensures read { IfOk result (λ n. IsPrefixLen n room.new) }
+    ensures room_kept { length room.new ≡ length room.old }
 {
-    let mut path = io::buffer();
+    let mut path = buffer();
     let n = make_path(&mut path, name, ending);
-    let fd = os::open_read(&path[..n]);
-    if fd < 0 {
-        return 0;
+    match open(rt, &path[..n]) {
+        Ok(file) => take(file, room),
+        Err(_) => Ok(0),
     }
-    take(fd, room)
 }

@@ -15,7 +15,7 @@ use Rattle.sheet.specs.declared.Printed.{Printed}
 use Rattle.sheet.specs.declared.State.{State}
 use Rattle.sheet.specs.declared.Step.{Step}
 use Rattle.sheet.specs.declared.Step.TheVariants as step
-use Rattle.sheet_printer.specs.Turns.{told, turns, all_turns, AllTold}
+use Rattle.sheet_printer.specs.Turns.{Told, told, turns, all_turns, AllTold, SomeTurns}
 
 -- No more lines fit than there are, and no sheet has more lines than bytes.
 fit-most : (room : ℕ) (ls : List (List ℕ)) → (fit room ls).lines ≤ length ls
@@ -64,6 +64,15 @@ pub turning-first : (all : List (List ℕ)) (buf : List ℕ) → Turning all buf
 unfolding all_turns
 turning-first all buf = record { left = length all; is = refl; enough = omega arith; inside = omega arith; sized = refl }
 
+-- How many turns were made, each of which printed a line at least.
+pub record Made (all : List (List ℕ)) (buf₀ buf : List ℕ) (skip : ℕ) : Type 0 where
+  pub count : ℕ
+  pub within : count ≤ skip
+  pub is : (n : ℕ) → turns n all buf skip ≡ turns (count + n) all buf₀ 0
+
+pub made-first : (all : List (List ℕ)) (buf : List ℕ) → Made all buf buf 0
+made-first all buf = record { count = 0; within = omega arith; is = λ n. ap (λ t. turns t all buf 0) (omega arith) }
+
 module _ (all : List (List ℕ)) {buf₀ buf : List ℕ} {skip : ℕ} (w : Turning all buf₀ buf skip) {out : List ℕ} {p : Printed} (e : shown out p ≡ laid_out buf (fit (length buf) (drop skip all))) (k : Continues all skip (length buf) (fit (length buf) (drop skip all))) where
   abbrev f : Fit
   f = fit (length buf) (drop skip all)
@@ -104,6 +113,18 @@ module _ (all : List (List ℕ)) {buf₀ buf : List ℕ} {skip : ℕ} (w : Turni
         go : pick (p.more && ltb 0 p.lines) (turns w.left all out (skip + p.lines)) (told out (skip + p.lines)) ≡ turns w.left all out (skip + p.lines)
         go = rw (m, lt-ltb 0 p.lines h)
 
+    pub made-next : Made all buf₀ buf skip → Made all buf₀ out (skip + p.lines)
+    made-next d =
+        let y = d.within in
+        record {
+          count = suc d.count;
+          within = omega arith;
+          is = λ n. sym (one n ∙ on n) ∙ d.is (suc n) ∙ ap (λ t. turns t all buf₀ 0) (omega arith);
+        }
+      where
+        on : (n : ℕ) → pick (p.more && ltb 0 p.lines) (turns n all out (skip + p.lines)) (told out (skip + p.lines)) ≡ turns n all out (skip + p.lines)
+        on n = rw (m, lt-ltb 0 p.lines h)
+
   -- A turn that leaves no line is the last.
   module _ (m : p.more ≡ false) where
     pub told-all : told out (skip + p.lines) ≡ all_turns all buf₀
@@ -128,6 +149,22 @@ module _ (all : List (List ℕ)) {buf₀ buf : List ℕ} {skip : ℕ} (w : Turni
           over = rw (z, ← w.sized) (lines-is ∙ h);
           whole = λ r. let o : 0 < f.lines = k.some (more-is ∙ m) (rw w.sized r) in let l = lines-is in absurd (omega arith);
         }
+
+-- A turn whose lines can't be printed leaves the buffer as one more turn.
+pub stopped : (all : List (List ℕ)) {buf₀ buf out : List ℕ} {skip : ℕ} → Turning all buf₀ buf skip → Made all buf₀ buf skip → out ≡ (laid_out buf (fit (length buf) (drop skip all))).buf → SomeTurns all buf₀ out
+unfolding turns
+stopped all {buf₀} {buf} {out} {skip} w d e =
+    let i = w.inside in
+    let y = d.within in
+    let f : Fit = fit (length buf) (drop skip all) in
+    let z : d.count + 1 ≡ suc d.count = omega arith in
+    let one : turns 1 all buf skip ≡ turns (suc d.count) all buf₀ 0 = d.is 1 ∙ ap (λ t. turns t all buf₀ 0) z in
+    let q : d.count ≤ length all = omega arith in
+    (d.count, q, e ∙ sym (same (f.more && ltb 0 f.lines) _ (laid_out buf f).buf) ∙ ap (λ (x : Told). x.buf) one)
+  where
+    same : (b : Bool) (s : ℕ) (l : List ℕ) → (pick b (told l s) (told l s)).buf ≡ l
+    same true s l = refl
+    same false s l = refl
 
 -- A test that was negated.
 pub said : (b : Bool) {c : Bool} → not b ≡ c → b ≡ not c

@@ -30,3 +30,7 @@ all_turns all buf = turns (suc (length all)) all buf 0
 pub record AllTold (all : List (List ℕ)) (room n : ℕ) : Type 0 where
   pub over : (fit room (drop n all)).lines ≡ 0
   pub whole : 4150 ≤ room → n ≡ length all
+
+-- The buffer after so many turns: one at least, and no more than all turns are at most.
+abbrev pub SomeTurns : List (List ℕ) → List ℕ → List ℕ → Type 0
+SomeTurns all buf new = (n : ℕ) × (n ≤ length all) × (new ≡ (turns (suc n) all buf 0).buf)

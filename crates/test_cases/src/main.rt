@@ -6,7 +6,8 @@ use checked_calls::answer::Answer;
 use checked_calls::calls::SizeAnswer;
 use codeview::index::{IdIndex, TypeIndex};
 use files::{all, decimal, fill, hex, judge, refused, say, title, within};
-use libc::STDERR_FILENO;
+use std::io;
+use std::rt::{Env, Files};
 use wire::field::Field32;
 
 // Where a list of calls has been read to, how many calls it made, and what holds for the next one.
@@ -29,66 +30,89 @@ fn checksum(text: &[u8]) -> u32 {
     let mut sums: u32 = 0;
     let mut i = 0;
     while i < text.len() {
-        sum = std::num::wrapping_add_u32(sum, wide(text[i]));
-        sums = std::num::wrapping_add_u32(sums, sum);
+        sum = sum.wrapping_add(wide(text[i]));
+        sums = sums.wrapping_add(sum);
         i += 1;
     }
     sums
 }
 
 // A long text is printed by its length, sum and first bytes.
-fn show(text: &[u8]) {
+fn show(rt: &impl Print, text: &[u8]) -> io::Result<()> {
     if text.len() <= 200 {
-        say(b" ");
-        say(text);
-        return;
+        say(rt, b" ")?;
+        say(rt, text)?;
+        return Ok(());
     }
-    decimal(b" length ", text.len() as u64);
-    hex(b" sum 0x", checksum(text));
-    say(b" start ");
+    decimal(rt, b" length ", text.len() as u64)?;
+    hex(rt, b" sum 0x", checksum(text))?;
+    say(rt, b" start ")?;
     let k = within(60, text);
-    say(&text[..k]);
+    say(rt, &text[..k])
 }
 
-fn text_answer(out: &[u8], a: Answer) {
+fn text_answer(rt: &impl Print, out: &[u8], a: Answer) -> io::Result<()> {
     match a {
         Answer::Text(n) => {
-            say(b" 0 0x0");
+            say(rt, b" 0 0x0")?;
             let k = within(n, out);
-            show(&out[..k]);
-            judge(all(out, n, 0xaa));
+            show(rt, &out[..k])?;
+            judge(rt, all(out, n, 0xaa))
         }
         Answer::Refused(f) => {
-            refused(f);
-            judge(all(out, 0, 0));
+            refused(rt, f)?;
+            judge(rt, all(out, 0, 0))
         }
     }
 }
 
-fn size_answer(a: SizeAnswer) {
+fn size_answer(rt: &impl Print, a: SizeAnswer) -> io::Result<()> {
     match a {
-        SizeAnswer::Bytes(n) => decimal(b" 0 0x0 ", n),
-        SizeAnswer::Refused(f) => refused(f),
+        SizeAnswer::Bytes(n) => decimal(rt, b" 0 0x0 ", n),
+        SizeAnswer::Refused(f) => refused(rt, f),
     }
 }
 
-fn type_call(types: &[u8], out: &mut [u8], s: State, index: u32) {
+fn type_call(
+    rt: &impl Print,
+    types: &[u8],
+    out: &mut [u8],
+    s: State,
+    index: u32,
+) -> io::Result<()> {
     let a = type_formatter::format_type(types, out, s.flags, s.size, TypeIndex(index));
-    text_answer(out, a);
+    text_answer(rt, out, a)
 }
 
-fn id_call(types: &[u8], ids: &[u8], out: &mut [u8], s: State, index: u32) {
+fn id_call(
+    rt: &impl Print,
+    types: &[u8],
+    ids: &[u8],
+    out: &mut [u8],
+    s: State,
+    index: u32,
+) -> io::Result<()> {
     let a = type_formatter::format_id(types, ids, out, s.flags, s.size, IdIndex(index));
-    text_answer(out, a);
+    text_answer(rt, out, a)
 }
 
-fn function_call(types: &[u8], out: &mut [u8], s: State, name: &[u8], index: u32) {
+fn function_call(
+    rt: &impl Print,
+    types: &[u8],
+    out: &mut [u8],
+    s: State,
+    name: &[u8],
+    index: u32,
+) -> io::Result<()> {
     let a = type_formatter::format_function(types, out, s.flags, s.size, name, TypeIndex(index));
-    text_answer(out, a);
+    text_answer(rt, out, a)
 }
 
-fn size_call(types: &[u8], s: State, index: u32) {
-    size_answer(type_formatter::get_type_size(types, s.size, TypeIndex(index)));
+fn size_call(rt: &impl Print, types: &[u8], s: State, index: u32) -> io::Result<()> {
+    size_answer(
+        rt,
+        type_formatter::get_type_size(types, s.size, TypeIndex(index)),
+    )
 }
 
 // Copies bytes as far as both slices reach, and answers how many.
@@ -111,6 +135,7 @@ fn copy(from: &[u8], start: usize, count: usize, to: &mut [u8]) -> usize {
 
 // The call that a command stands for; a function's call alone has a name.
 fn chosen(
+    rt: &impl Print,
     types: &[u8],
     ids: &[u8],
     out: &mut [u8],
@@ -118,24 +143,25 @@ fn chosen(
     command: u8,
     name: &[u8],
     index: u32,
-) {
+) -> io::Result<()> {
     if command == 0x10 {
-        type_call(types, out, s, index);
-        return;
+        type_call(rt, types, out, s, index)?;
+        return Ok(());
     }
     if command == 0x11 {
-        size_call(types, s, index);
-        return;
+        size_call(rt, types, s, index)?;
+        return Ok(());
     }
     if command == 0x12 {
-        id_call(types, ids, out, s, index);
-        return;
+        id_call(rt, types, ids, out, s, index)?;
+        return Ok(());
     }
-    function_call(types, out, s, name, index);
+    function_call(rt, types, out, s, name, index)
 }
 
 // A line for a call, on a buffer of just the length that is set.
 fn call_with(
+    rt: &impl Print,
     types: &[u8],
     ids: &[u8],
     out: &mut [u8],
@@ -143,14 +169,15 @@ fn call_with(
     command: u8,
     name: &[u8],
     index: u32,
-) {
+) -> io::Result<()> {
     fill(out);
-    decimal(b"", s.number);
-    chosen(types, ids, out, s, command, name, index);
-    say(b"\n");
+    decimal(rt, b"", s.number)?;
+    chosen(rt, types, ids, out, s, command, name, index)?;
+    say(rt, b"\n")
 }
 
 fn call_within(
+    rt: &impl Print,
     types: &[u8],
     ids: &[u8],
     out: &mut [u8],
@@ -158,22 +185,31 @@ fn call_within(
     command: u8,
     name: &[u8],
     index: u32,
-) {
+) -> io::Result<()> {
     let k = within(s.room, out);
-    call_with(types, ids, &mut out[..k], s, command, name, index);
+    call_with(rt, types, ids, &mut out[..k], s, command, name, index)
 }
 
-fn call(types: &[u8], ids: &[u8], s: State, command: u8, name: &[u8], n: usize, index: u32) {
+fn call(
+    rt: &impl Print,
+    types: &[u8],
+    ids: &[u8],
+    s: State,
+    command: u8,
+    name: &[u8],
+    n: usize,
+    index: u32,
+) -> io::Result<()> {
     let k = within(n, name);
-    let mut out = io::buffer();
-    call_within(types, ids, &mut out, s, command, &name[..k], index);
+    let mut out = files::buffer();
+    call_within(rt, types, ids, &mut out, s, command, &name[..k], index)
 }
 
 // The state behind a command: it stands further on, and a call has been counted or not.
 fn behind(s: State, at: usize, calls: u64) -> State {
     State {
         at,
-        number: std::num::wrapping_add_u64(s.number, calls),
+        number: s.number.wrapping_add(calls),
         flags: s.flags,
         size: s.size,
         room: s.room,
@@ -211,9 +247,9 @@ fn set_room(s: State, room: u32) -> State {
 }
 
 // A list of calls that cannot be read on is left.
-fn broken(calls: &[u8], s: State) -> State {
-    say(b"calls broken\n");
-    behind(s, calls.len(), 0)
+fn broken(rt: &impl Print, calls: &[u8], s: State) -> io::Result<State> {
+    say(rt, b"calls broken\n")?;
+    Ok(behind(s, calls.len(), 0))
 }
 
 fn long(b: u8) -> usize {
@@ -221,64 +257,85 @@ fn long(b: u8) -> usize {
 }
 
 // A function's call has its name behind the index: a length and so many bytes.
-fn named_call(types: &[u8], calls: &[u8], s: State, index: u32) -> State {
+fn named_call(
+    rt: &impl Print,
+    types: &[u8],
+    calls: &[u8],
+    s: State,
+    index: u32,
+) -> io::Result<State> {
     let at = s.at;
     if calls.len() <= at {
-        return broken(calls, s);
+        return broken(rt, calls, s);
     }
     let count = long(calls[at]);
-    let start = std::num::wrapping_add_usize(at, 1);
-    let mut name = io::buffer();
+    let start = at.wrapping_add(1);
+    let mut name = files::buffer();
     let n = copy(calls, start, count, &mut name);
-    let t = behind(s, std::num::wrapping_add_usize(start, n), 1);
-    call(types, b"", t, 0x13, &name, n, index);
-    t
+    let t = behind(s, start.wrapping_add(n), 1);
+    call(rt, types, b"", t, 0x13, &name, n, index)?;
+    Ok(t)
 }
 
-fn plain_call(types: &[u8], ids: &[u8], s: State, command: u8, index: u32) -> State {
+fn plain_call(
+    rt: &impl Print,
+    types: &[u8],
+    ids: &[u8],
+    s: State,
+    command: u8,
+    index: u32,
+) -> io::Result<State> {
     let t = behind(s, s.at, 1);
-    call(types, ids, t, command, b"", 0, index);
-    t
+    call(rt, types, ids, t, command, b"", 0, index)?;
+    Ok(t)
 }
 
 // A command whose byte and number have been read; the state stands behind them.
-fn act(types: &[u8], ids: &[u8], calls: &[u8], s: State, command: u8, value: u32) -> State {
+fn act(
+    rt: &impl Print,
+    types: &[u8],
+    ids: &[u8],
+    calls: &[u8],
+    s: State,
+    command: u8,
+    value: u32,
+) -> io::Result<State> {
     if command == 0x01 {
-        return set_flags(s, value);
+        return Ok(set_flags(s, value));
     }
     if command == 0x02 {
-        return set_size(s, value);
+        return Ok(set_size(s, value));
     }
     if command == 0x03 {
-        return set_room(s, value);
+        return Ok(set_room(s, value));
     }
     if command == 0x13 {
-        return named_call(types, calls, s, value);
+        return named_call(rt, types, calls, s, value);
     }
     if command < 0x10 {
-        return broken(calls, s);
+        return broken(rt, calls, s);
     }
     if 0x13 < command {
-        return broken(calls, s);
+        return broken(rt, calls, s);
     }
-    plain_call(types, ids, s, command, value)
+    plain_call(rt, types, ids, s, command, value)
 }
 
-fn step(types: &[u8], ids: &[u8], calls: &[u8], s: State) -> State {
+fn step(rt: &impl Print, types: &[u8], ids: &[u8], calls: &[u8], s: State) -> io::Result<State> {
     let at = s.at;
     if calls.len() <= at {
-        return s;
+        return Ok(s);
     }
     let command = calls[at];
-    let t = behind(s, std::num::wrapping_add_usize(at, 5), 0);
-    match wire::field::u32_at(calls, std::num::wrapping_add_usize(at, 1)) {
-        Field32::Value(value) => act(types, ids, calls, t, command, value),
-        Field32::Outside => broken(calls, s),
+    let t = behind(s, at.wrapping_add(5), 0);
+    match wire::field::u32_at(calls, at.wrapping_add(1)) {
+        Field32::Value(value) => act(rt, types, ids, calls, t, command, value),
+        Field32::Outside => broken(rt, calls, s),
     }
 }
 
 // All calls of a list: flags 0, pointer size 8 and 4,096 bytes of buffer until it says otherwise.
-fn run(types: &[u8], ids: &[u8], calls: &[u8]) {
+fn run(rt: &impl Print, types: &[u8], ids: &[u8], calls: &[u8]) -> io::Result<()> {
     let mut s = State {
         at: 0,
         number: 0,
@@ -287,12 +344,13 @@ fn run(types: &[u8], ids: &[u8], calls: &[u8]) {
         room: 4096,
     };
     while s.at < calls.len() {
-        let t = step(types, ids, calls, s);
+        let t = step(rt, types, ids, calls, s)?;
         if t.at <= s.at {
-            return;
+            return Ok(());
         }
         s = t;
     }
+    Ok(())
 }
 
 // Room for a type stream.
@@ -301,31 +359,35 @@ fn room() -> [u8; 131_072] {
 }
 
 // Most cases have no ids, so nothing is said of a file that is not there.
-fn show_case(name: &[u8]) {
-    title(name);
+fn show_case<R: Files + Print + Eprint>(rt: &R, name: &[u8]) -> io::Result<()> {
+    title(rt, name)?;
     let mut types = room();
-    let t = files::load_if_there(name, b"-types.bin", &mut types);
-    let mut ids = io::large_buffer();
-    let u = files::load_if_there(name, b"-ids.bin", &mut ids);
-    let mut calls = io::large_buffer();
-    let c = files::load_if_there(name, b"-calls.bin", &mut calls);
+    let t = files::load_if_there(rt, name, b"-types.bin", &mut types)?;
+    let mut ids = files::large_buffer();
+    let u = files::load_if_there(rt, name, b"-ids.bin", &mut ids)?;
+    let mut calls = files::large_buffer();
+    let c = files::load_if_there(rt, name, b"-calls.bin", &mut calls)?;
     if c == 0 {
-        io::write_all(STDERR_FILENO, b"cases: no calls\n");
+        rt.eprint("cases: no calls\n")?;
     }
-    run(&types[..t], &ids[..u], &calls[..c]);
+    run(rt, &types[..t], &ids[..u], &calls[..c])
 }
 
-fn argument(i: usize) {
-    let mut name = io::buffer();
-    let n = os::arg(i, &mut name);
-    show_case(&name[..n]);
+// Whether there is such an argument.
+fn argument<R: Env + Files + Print + Eprint>(rt: &R, i: usize) -> io::Result<bool> {
+    let mut name = files::buffer();
+    let Some(n) = files::argument(rt, i, &mut name) else {
+        return Ok(false);
+    };
+    show_case(rt, &name[..n])?;
+    Ok(true)
 }
 
-fn main() {
-    let count = os::arg_count();
-    let mut i = 1;
-    while i < count {
-        argument(i);
-        i += 1;
+fn main(rt: HostRuntime) -> io::Result<()> {
+    for i in 1..usize::MAX {
+        if !argument(&rt, i)? {
+            break;
+        }
     }
+    Ok(())
 }

@@ -9,6 +9,8 @@ use leaf_writers::names::name_of;
 use measures::answer::Measure;
 use measures::placed;
 use sheet::command::Command;
+use std::io;
+use std::rt::{Env, Files};
 use streams::refusal::Refusal;
 use wire::name::Name;
 
@@ -26,56 +28,82 @@ fn long(n: u32) -> usize {
     n as usize
 }
 
-fn line(s: State, m: Measure) -> State {
-    decimal(b"", s.number);
+fn line(rt: &impl Print, s: State, m: Measure) -> io::Result<State> {
+    decimal(rt, b"", s.number)?;
     match m {
         Measure::Text(e) => {
             let length = e.length;
             let opened = e.opened;
-            decimal(b" 0 0x0 ", length as u64);
-            decimal(b" ", opened);
+            decimal(rt, b" 0 0x0 ", length as u64)?;
+            decimal(rt, b" ", opened)?;
         }
-        Measure::Refused(f) => refused(f),
+        Measure::Refused(f) => refused(rt, f)?,
     }
-    say(b"\n");
-    s
+    say(rt, b"\n")?;
+    Ok(s)
 }
 
 // The calls; the state stands behind the command.
-fn type_line(types: &[u8], places: &[u32], s: State, index: u32) -> State {
+fn type_line(
+    rt: &impl Print,
+    types: &[u8],
+    places: &[u32],
+    s: State,
+    index: u32,
+) -> io::Result<State> {
     if s.lent {
         return line(
+            rt,
             s,
             placed::measure_type(types, places, s.flags, s.size, TypeIndex(index)),
         );
     }
     line(
+        rt,
         s,
         measures::measure_type(types, s.flags, s.size, TypeIndex(index)),
     )
 }
 
-fn id_line(types: &[u8], ids: &[u8], places: &[u32], s: State, index: u32) -> State {
+fn id_line(
+    rt: &impl Print,
+    types: &[u8],
+    ids: &[u8],
+    places: &[u32],
+    s: State,
+    index: u32,
+) -> io::Result<State> {
     if s.lent {
         return line(
+            rt,
             s,
             placed::measure_id(types, ids, places, s.flags, s.size, IdIndex(index)),
         );
     }
     line(
+        rt,
         s,
         measures::measure_id(types, ids, s.flags, s.size, IdIndex(index)),
     )
 }
 
-fn function_line(types: &[u8], places: &[u32], s: State, name: &[u8], index: u32) -> State {
+fn function_line(
+    rt: &impl Print,
+    types: &[u8],
+    places: &[u32],
+    s: State,
+    name: &[u8],
+    index: u32,
+) -> io::Result<State> {
     if s.lent {
         return line(
+            rt,
             s,
             placed::measure_function(types, places, s.flags, s.size, name, TypeIndex(index)),
         );
     }
     line(
+        rt,
         s,
         measures::measure_function(types, s.flags, s.size, name, TypeIndex(index)),
     )
@@ -84,8 +112,8 @@ fn function_line(types: &[u8], places: &[u32], s: State, name: &[u8], index: u32
 // Behind a command of so many bytes and so many lines.
 fn behind(s: State, width: usize, lines: u64) -> State {
     State {
-        at: std::num::wrapping_add_usize(s.at, width),
-        number: std::num::wrapping_add_u64(s.number, lines),
+        at: s.at.wrapping_add(width),
+        number: s.number.wrapping_add(lines),
         flags: s.flags,
         size: s.size,
         lent: s.lent,
@@ -113,37 +141,59 @@ fn set_size(s: State, size: u32) -> State {
 }
 
 // A function's name stands behind the index: 16 bytes, or up to a zero.
-fn named_line(types: &[u8], places: &[u32], sheet: &[u8], s: State, index: u32) -> State {
-    let start = std::num::wrapping_add_usize(s.at, 5);
+fn named_line(
+    rt: &impl Print,
+    types: &[u8],
+    places: &[u32],
+    sheet: &[u8],
+    s: State,
+    index: u32,
+) -> io::Result<State> {
+    let start = s.at.wrapping_add(5);
     let end = sheet::command::name_end(sheet, start);
-    let len = std::num::wrapping_sub_usize(end, start);
+    let len = end.wrapping_sub(start);
     let name = name_of(sheet, Name { start, len });
-    function_line(types, places, behind(s, 21, 1), name, index)
+    function_line(rt, types, places, behind(s, 21, 1), name, index)
 }
 
 // The line of an unknown or cut command; the sheet is at its end.
-fn faulty(sheet: &[u8], s: State, byte: u8) -> State {
+fn faulty(rt: &impl Print, sheet: &[u8], s: State, byte: u8) -> io::Result<State> {
     line(
+        rt,
         behind(s, sheet.len(), 1),
         Measure::Refused(Refusal::UnknownCommand(byte as u32)),
     )
 }
 
-fn step(types: &[u8], ids: &[u8], places: &[u32], sheet: &[u8], s: State) -> State {
+fn step(
+    rt: &impl Print,
+    types: &[u8],
+    ids: &[u8],
+    places: &[u32],
+    sheet: &[u8],
+    s: State,
+) -> io::Result<State> {
     match sheet::command::command_at(sheet, s.at) {
-        Command::End => s,
-        Command::Flags(n) => set_flags(behind(s, 5, 0), n),
-        Command::PointerSize(n) => set_size(behind(s, 2, 0), n),
-        Command::TypeText(i) => type_line(types, places, behind(s, 5, 1), i),
-        Command::TypeSize(i) => behind(s, 5, 0),
-        Command::IdText(i) => id_line(types, ids, places, behind(s, 5, 1), i),
-        Command::FunctionText(i) => named_line(types, places, sheet, s, i),
-        Command::Faulty(b) => faulty(sheet, s, b),
+        Command::End => Ok(s),
+        Command::Flags(n) => Ok(set_flags(behind(s, 5, 0), n)),
+        Command::PointerSize(n) => Ok(set_size(behind(s, 2, 0), n)),
+        Command::TypeText(i) => type_line(rt, types, places, behind(s, 5, 1), i),
+        Command::TypeSize(i) => Ok(behind(s, 5, 0)),
+        Command::IdText(i) => id_line(rt, types, ids, places, behind(s, 5, 1), i),
+        Command::FunctionText(i) => named_line(rt, types, places, sheet, s, i),
+        Command::Faulty(b) => faulty(rt, sheet, s, b),
     }
 }
 
 // All lines of a sheet: flags 0 and pointer size 8 until it says otherwise.
-fn run(types: &[u8], ids: &[u8], places: &[u32], sheet: &[u8], lent: bool) {
+fn run(
+    rt: &impl Print,
+    types: &[u8],
+    ids: &[u8],
+    places: &[u32],
+    sheet: &[u8],
+    lent: bool,
+) -> io::Result<()> {
     let mut s = State {
         at: 0,
         number: 0,
@@ -152,60 +202,83 @@ fn run(types: &[u8], ids: &[u8], places: &[u32], sheet: &[u8], lent: bool) {
         lent,
     };
     while s.at < sheet.len() {
-        let t = step(types, ids, places, sheet, s);
+        let t = step(rt, types, ids, places, sheet, s)?;
         if t.at <= s.at {
-            return;
+            return Ok(());
         }
         s = t;
     }
+    Ok(())
 }
 
 // The sheet of a case whose calls are lent the first entries of these, so many.
-fn run_lent(types: &[u8], ids: &[u8], sheet: &[u8], count: usize, entries: &[u32]) {
+fn run_lent(
+    rt: &impl Print,
+    types: &[u8],
+    ids: &[u8],
+    sheet: &[u8],
+    count: usize,
+    entries: &[u32],
+) -> io::Result<()> {
     let k = entries_within(count, entries);
-    run(types, ids, &entries[..k], sheet, true);
+    run(rt, types, ids, &entries[..k], sheet, true)
 }
 
 // The sheet of a case, given the numbers of its file of places: how many entries are lent, and these. Without numbers nothing is lent.
-fn run_case(types: &[u8], ids: &[u8], sheet: &[u8], given: &[u32]) {
+fn run_case(
+    rt: &impl Print,
+    types: &[u8],
+    ids: &[u8],
+    sheet: &[u8],
+    given: &[u32],
+) -> io::Result<()> {
     if given.len() == 0 {
-        run(types, ids, given, sheet, false);
-        return;
+        return run(rt, types, ids, given, sheet, false);
     }
-    run_lent(types, ids, sheet, long(given[0]), &given[1..]);
+    run_lent(rt, types, ids, sheet, long(given[0]), &given[1..])
 }
 
-fn show_sheet(name: &[u8], types: &[u8], ids: &[u8], sheet: &[u8]) {
+fn show_sheet<R: Files + Print + Eprint>(
+    rt: &R,
+    name: &[u8],
+    types: &[u8],
+    ids: &[u8],
+    sheet: &[u8],
+) -> io::Result<()> {
     let mut bytes = sheet_printer::room();
-    let n = load_if_there(name, b"-places.bin", &mut bytes);
+    let n = load_if_there(rt, name, b"-places.bin", &mut bytes)?;
     let mut given = [0u32; 4096];
     let count = numbers(&bytes[..n], &mut given);
     let k = entries_within(count, &given);
-    run_case(types, ids, sheet, &given[..k]);
+    run_case(rt, types, ids, sheet, &given[..k])
 }
 
-fn show_case(name: &[u8]) {
-    title(name);
-    let mut types = io::large_buffer();
-    let t = load_named(name, b"-types.bin", &mut types);
+fn show_case<R: Files + Print + Eprint>(rt: &R, name: &[u8]) -> io::Result<()> {
+    title(rt, name)?;
+    let mut types = files::large_buffer();
+    let t = load_named(rt, name, b"-types.bin", &mut types)?;
     let mut ids = sheet_printer::room();
-    let u = load_named(name, b"-ids.bin", &mut ids);
+    let u = load_named(rt, name, b"-ids.bin", &mut ids)?;
     let mut sheet = sheet_printer::room();
-    let n = load_named(name, b"-sheet.bin", &mut sheet);
-    show_sheet(name, &types[..t], &ids[..u], &sheet[..n]);
+    let n = load_named(rt, name, b"-sheet.bin", &mut sheet)?;
+    show_sheet(rt, name, &types[..t], &ids[..u], &sheet[..n])
 }
 
-fn argument(i: usize) {
-    let mut name = io::buffer();
-    let n = os::arg(i, &mut name);
-    show_case(&name[..n]);
+// Whether there is such an argument.
+fn argument<R: Env + Files + Print + Eprint>(rt: &R, i: usize) -> io::Result<bool> {
+    let mut name = files::buffer();
+    let Some(n) = files::argument(rt, i, &mut name) else {
+        return Ok(false);
+    };
+    show_case(rt, &name[..n])?;
+    Ok(true)
 }
 
-fn main() {
-    let count = os::arg_count();
-    let mut i = 1;
-    while i < count {
-        argument(i);
-        i += 1;
+fn main(rt: HostRuntime) -> io::Result<()> {
+    for i in 1..usize::MAX {
+        if !argument(&rt, i)? {
+            break;
+        }
     }
+    Ok(())
 }

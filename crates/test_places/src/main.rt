@@ -11,6 +11,8 @@ use files::{
 use leaf_writers::names::name_of;
 use record_places::PlacesAnswer;
 use sheet::command::Command;
+use std::io;
+use std::rt::{Env, Files};
 use streams::refusal::Refusal;
 use type_formatter::placed;
 use wire::name::Name;
@@ -53,43 +55,56 @@ fn all_entries(places: &[u32], from: usize, entry: u32) -> bool {
     true
 }
 
-fn text_line(out: &[u8], number: u64, a: Answer) {
-    decimal(b"", number);
+fn text_line(rt: &impl Print, out: &[u8], number: u64, a: Answer) -> io::Result<()> {
+    decimal(rt, b"", number)?;
     match a {
         Answer::Text(n) => {
-            say(b" 0 0x0 ");
+            say(rt, b" 0 0x0 ")?;
             let k = within(n, out);
-            say(&out[..k]);
-            judge(all(out, n, 0xaa));
+            say(rt, &out[..k])?;
+            judge(rt, all(out, n, 0xaa))?;
         }
         Answer::Refused(f) => {
-            refused(f);
-            judge(all(out, 0, 0));
+            refused(rt, f)?;
+            judge(rt, all(out, 0, 0))?;
         }
     }
-    say(b"\n");
+    say(rt, b"\n")
 }
 
-fn size_line(number: u64, a: SizeAnswer) {
-    decimal(b"", number);
+fn size_line(rt: &impl Print, number: u64, a: SizeAnswer) -> io::Result<()> {
+    decimal(rt, b"", number)?;
     match a {
-        SizeAnswer::Bytes(n) => decimal(b" 0 0x0 ", n),
-        SizeAnswer::Refused(f) => refused(f),
+        SizeAnswer::Bytes(n) => decimal(rt, b" 0 0x0 ", n)?,
+        SizeAnswer::Refused(f) => refused(rt, f)?,
     }
-    say(b"\n");
+    say(rt, b"\n")
 }
 
 // The calls, each on a buffer of its own; the state stands behind the command.
-fn type_text(types: &[u8], places: &[u32], s: State, index: u32) -> State {
-    let mut out = io::buffer();
+fn type_text(
+    rt: &impl Print,
+    types: &[u8],
+    places: &[u32],
+    s: State,
+    index: u32,
+) -> io::Result<State> {
+    let mut out = files::buffer();
     fill(&mut out);
     let a = placed::format_type(types, places, &mut out, s.flags, s.size, TypeIndex(index));
-    text_line(&out, s.number, a);
-    s
+    text_line(rt, &out, s.number, a)?;
+    Ok(s)
 }
 
-fn id_text(types: &[u8], ids: &[u8], places: &[u32], s: State, index: u32) -> State {
-    let mut out = io::buffer();
+fn id_text(
+    rt: &impl Print,
+    types: &[u8],
+    ids: &[u8],
+    places: &[u32],
+    s: State,
+    index: u32,
+) -> io::Result<State> {
+    let mut out = files::buffer();
     fill(&mut out);
     let a = placed::format_id(
         types,
@@ -100,12 +115,19 @@ fn id_text(types: &[u8], ids: &[u8], places: &[u32], s: State, index: u32) -> St
         s.size,
         IdIndex(index),
     );
-    text_line(&out, s.number, a);
-    s
+    text_line(rt, &out, s.number, a)?;
+    Ok(s)
 }
 
-fn function_text(types: &[u8], places: &[u32], s: State, name: &[u8], index: u32) -> State {
-    let mut out = io::buffer();
+fn function_text(
+    rt: &impl Print,
+    types: &[u8],
+    places: &[u32],
+    s: State,
+    name: &[u8],
+    index: u32,
+) -> io::Result<State> {
+    let mut out = files::buffer();
     fill(&mut out);
     let a = placed::format_function(
         types,
@@ -116,21 +138,27 @@ fn function_text(types: &[u8], places: &[u32], s: State, name: &[u8], index: u32
         name,
         TypeIndex(index),
     );
-    text_line(&out, s.number, a);
-    s
+    text_line(rt, &out, s.number, a)?;
+    Ok(s)
 }
 
-fn type_size(types: &[u8], places: &[u32], s: State, index: u32) -> State {
+fn type_size(
+    rt: &impl Print,
+    types: &[u8],
+    places: &[u32],
+    s: State,
+    index: u32,
+) -> io::Result<State> {
     let a = placed::get_type_size(types, places, s.size, TypeIndex(index));
-    size_line(s.number, a);
-    s
+    size_line(rt, s.number, a)?;
+    Ok(s)
 }
 
 // Behind a command that prints a line.
 fn behind(s: State, width: usize) -> State {
     State {
-        at: std::num::wrapping_add_usize(s.at, width),
-        number: std::num::wrapping_add_u64(s.number, 1),
+        at: s.at.wrapping_add(width),
+        number: s.number.wrapping_add(1),
         flags: s.flags,
         size: s.size,
     }
@@ -138,7 +166,7 @@ fn behind(s: State, width: usize) -> State {
 
 fn set_flags(s: State, flags: u32) -> State {
     State {
-        at: std::num::wrapping_add_usize(s.at, 5),
+        at: s.at.wrapping_add(5),
         number: s.number,
         flags,
         size: s.size,
@@ -147,7 +175,7 @@ fn set_flags(s: State, flags: u32) -> State {
 
 fn set_size(s: State, size: u32) -> State {
     State {
-        at: std::num::wrapping_add_usize(s.at, 2),
+        at: s.at.wrapping_add(2),
         number: s.number,
         flags: s.flags,
         size,
@@ -155,42 +183,56 @@ fn set_size(s: State, size: u32) -> State {
 }
 
 // A function's name stands behind the index: 16 bytes, or up to a zero.
-fn named_text(types: &[u8], places: &[u32], sheet: &[u8], s: State, index: u32) -> State {
-    let start = std::num::wrapping_add_usize(s.at, 5);
+fn named_text(
+    rt: &impl Print,
+    types: &[u8],
+    places: &[u32],
+    sheet: &[u8],
+    s: State,
+    index: u32,
+) -> io::Result<State> {
+    let start = s.at.wrapping_add(5);
     let end = sheet::command::name_end(sheet, start);
-    let len = std::num::wrapping_sub_usize(end, start);
+    let len = end.wrapping_sub(start);
     let name = name_of(sheet, Name { start, len });
-    function_text(types, places, behind(s, 21), name, index)
+    function_text(rt, types, places, behind(s, 21), name, index)
 }
 
 // The line of an unknown or cut command; the sheet is at its end.
-fn faulty(sheet: &[u8], s: State, byte: u8) -> State {
-    decimal(b"", std::num::wrapping_add_u64(s.number, 1));
-    refused(Refusal::UnknownCommand(byte as u32));
-    say(b"\n");
-    State {
+fn faulty(rt: &impl Print, sheet: &[u8], s: State, byte: u8) -> io::Result<State> {
+    decimal(rt, b"", s.number.wrapping_add(1))?;
+    refused(rt, Refusal::UnknownCommand(byte as u32))?;
+    say(rt, b"\n")?;
+    Ok(State {
         at: sheet.len(),
         number: s.number,
         flags: s.flags,
         size: s.size,
-    }
+    })
 }
 
-fn step(types: &[u8], ids: &[u8], places: &[u32], sheet: &[u8], s: State) -> State {
+fn step(
+    rt: &impl Print,
+    types: &[u8],
+    ids: &[u8],
+    places: &[u32],
+    sheet: &[u8],
+    s: State,
+) -> io::Result<State> {
     match sheet::command::command_at(sheet, s.at) {
-        Command::End => s,
-        Command::Flags(n) => set_flags(s, n),
-        Command::PointerSize(n) => set_size(s, n),
-        Command::TypeText(i) => type_text(types, places, behind(s, 5), i),
-        Command::TypeSize(i) => type_size(types, places, behind(s, 5), i),
-        Command::IdText(i) => id_text(types, ids, places, behind(s, 5), i),
-        Command::FunctionText(i) => named_text(types, places, sheet, s, i),
-        Command::Faulty(b) => faulty(sheet, s, b),
+        Command::End => Ok(s),
+        Command::Flags(n) => Ok(set_flags(s, n)),
+        Command::PointerSize(n) => Ok(set_size(s, n)),
+        Command::TypeText(i) => type_text(rt, types, places, behind(s, 5), i),
+        Command::TypeSize(i) => type_size(rt, types, places, behind(s, 5), i),
+        Command::IdText(i) => id_text(rt, types, ids, places, behind(s, 5), i),
+        Command::FunctionText(i) => named_text(rt, types, places, sheet, s, i),
+        Command::Faulty(b) => faulty(rt, sheet, s, b),
     }
 }
 
 // All lines of a sheet: flags 0 and pointer size 8 until it says otherwise.
-fn run(types: &[u8], ids: &[u8], places: &[u32], sheet: &[u8]) {
+fn run(rt: &impl Print, types: &[u8], ids: &[u8], places: &[u32], sheet: &[u8]) -> io::Result<()> {
     let mut s = State {
         at: 0,
         number: 0,
@@ -198,118 +240,130 @@ fn run(types: &[u8], ids: &[u8], places: &[u32], sheet: &[u8]) {
         size: 8,
     };
     while s.at < sheet.len() {
-        let t = step(types, ids, places, sheet, s);
+        let t = step(rt, types, ids, places, sheet, s)?;
         if t.at <= s.at {
-            return;
+            return Ok(());
         }
         s = t;
     }
+    Ok(())
 }
 
-fn entries(places: &[u32], count: usize) {
+fn entries(rt: &impl Print, places: &[u32], count: usize) -> io::Result<()> {
     let mut i = 0;
     while i < count {
         if places.len() <= i {
-            return;
+            return Ok(());
         }
-        decimal(b" ", wide(places[i]));
+        decimal(rt, b" ", wide(places[i]))?;
         i += 1;
     }
+    Ok(())
 }
 
-fn zeros(right: bool) {
+fn zeros(rt: &impl Print, right: bool) -> io::Result<()> {
     if right {
-        say(b" zeros");
-        return;
+        return say(rt, b" zeros");
     }
-    judge(right);
+    judge(rt, right)
 }
 
-fn places_answer(places: &[u32], a: PlacesAnswer) {
+fn places_answer(rt: &impl Print, places: &[u32], a: PlacesAnswer) -> io::Result<()> {
     match a {
         PlacesAnswer::Filled(n) => {
-            say(b" 0 0x0");
-            entries(places, n);
-            judge(all_entries(places, n, 0xaaaa_aaaa));
+            say(rt, b" 0 0x0")?;
+            entries(rt, places, n)?;
+            judge(rt, all_entries(places, n, 0xaaaa_aaaa))
         }
         PlacesAnswer::Refused(f) => {
-            refused(f);
-            zeros(all_entries(places, 0, 0));
+            refused(rt, f)?;
+            zeros(rt, all_entries(places, 0, 0))
         }
     }
 }
 
 // A line of the pass, on a buffer of just the entries that are lent.
-fn pass_line(types: &[u8], places: &mut [u32]) {
+fn pass_line(rt: &impl Print, types: &[u8], places: &mut [u32]) -> io::Result<()> {
     fill_entries(places);
-    decimal(b"", places.len() as u64);
+    decimal(rt, b"", places.len() as u64)?;
     let a = record_places::fill_places(types, places);
-    places_answer(places, a);
-    say(b"\n");
+    places_answer(rt, places, a)?;
+    say(rt, b"\n")
 }
 
-fn pass_within(types: &[u8], places: &mut [u32], length: usize) {
+fn pass_within(rt: &impl Print, types: &[u8], places: &mut [u32], length: usize) -> io::Result<()> {
     let k = entries_within(length, places);
-    pass_line(types, &mut places[..k]);
+    pass_line(rt, types, &mut places[..k])
 }
 
 // The pass on a buffer of so many entries, 64 at most.
-fn pass(types: &[u8], length: usize) {
+fn pass(rt: &impl Print, types: &[u8], length: usize) -> io::Result<()> {
     let mut places = [0u32; 64];
-    pass_within(types, &mut places, length);
+    pass_within(rt, types, &mut places, length)
 }
 
-fn passes(types: &[u8], lengths: &[u32]) {
+fn passes(rt: &impl Print, types: &[u8], lengths: &[u32]) -> io::Result<()> {
     let mut i = 0;
     while i < lengths.len() {
-        pass(types, long(lengths[i]));
+        pass(rt, types, long(lengths[i]))?;
         i += 1;
     }
+    Ok(())
 }
 
 // The sheet of a case; its calls are lent the places of the case.
-fn show_sheet(name: &[u8], types: &[u8], ids: &[u8], sheet: &[u8]) {
+fn show_sheet<R: Files + Print + Eprint>(
+    rt: &R,
+    name: &[u8],
+    types: &[u8],
+    ids: &[u8],
+    sheet: &[u8],
+) -> io::Result<()> {
     let mut bytes = sheet_printer::room();
-    let n = load_named(name, b"-places.bin", &mut bytes);
+    let n = load_named(rt, name, b"-places.bin", &mut bytes)?;
     let mut places = [0u32; 4096];
     let count = numbers(&bytes[..n], &mut places);
     let k = entries_within(count, &places);
-    run(types, ids, &places[..k], sheet);
+    run(rt, types, ids, &places[..k], sheet)
 }
 
 // The pass, on a buffer of each length of the case.
-fn show_passes(name: &[u8], types: &[u8]) {
-    let mut bytes = io::buffer();
-    let n = load_named(name, b"-lengths.bin", &mut bytes);
+fn show_passes<R: Files + Print + Eprint>(rt: &R, name: &[u8], types: &[u8]) -> io::Result<()> {
+    let mut bytes = files::buffer();
+    let n = load_named(rt, name, b"-lengths.bin", &mut bytes)?;
     let mut lengths = [0u32; 64];
     let count = numbers(&bytes[..n], &mut lengths);
     let k = entries_within(count, &lengths);
-    passes(types, &lengths[..k]);
+    passes(rt, types, &lengths[..k])
 }
 
-fn show_case(name: &[u8]) {
-    title(name);
+fn show_case<R: Files + Print + Eprint>(rt: &R, name: &[u8]) -> io::Result<()> {
+    title(rt, name)?;
     let mut types = sheet_printer::room();
-    let t = load_named(name, b"-types.bin", &mut types);
+    let t = load_named(rt, name, b"-types.bin", &mut types)?;
     let mut ids = sheet_printer::room();
-    let u = load_named(name, b"-ids.bin", &mut ids);
+    let u = load_named(rt, name, b"-ids.bin", &mut ids)?;
     let mut sheet = sheet_printer::room();
-    let n = load_named(name, b"-sheet.bin", &mut sheet);
-    show_sheet(name, &types[..t], &ids[..u], &sheet[..n]);
-    show_passes(name, &types[..t]);
+    let n = load_named(rt, name, b"-sheet.bin", &mut sheet)?;
+    show_sheet(rt, name, &types[..t], &ids[..u], &sheet[..n])?;
+    show_passes(rt, name, &types[..t])
 }
 
-fn argument(i: usize) {
-    let mut name = io::buffer();
-    let n = os::arg(i, &mut name);
-    show_case(&name[..n]);
+// Whether there is such an argument.
+fn argument<R: Env + Files + Print + Eprint>(rt: &R, i: usize) -> io::Result<bool> {
+    let mut name = files::buffer();
+    let Some(n) = files::argument(rt, i, &mut name) else {
+        return Ok(false);
+    };
+    show_case(rt, &name[..n])?;
+    Ok(true)
 }
 
-fn main() {
-    let count = os::arg_count();
-    let mut i = 1;
-    while i < count {
-        argument(i);
-        i += 1;
+fn main(rt: HostRuntime) -> io::Result<()> {
+    for i in 1..usize::MAX {
+        if !argument(&rt, i)? {
+            break;
+        }
     }
+    Ok(())
 }

@@ -1,33 +1,41 @@
 // Prints the lines of sheets, one after the other. An argument NAME stands for NAME-types.bin, NAME-ids.bin and NAME-sheet.bin.
 #![tactic(auto)]
 
+use std::io;
+use std::rt::{Env, Files};
+
 // The least buffer that takes every line, so that a long sheet is printed in many turns.
 fn line_buffer() -> [u8; 4150] {
     [0u8; 4150]
 }
 
-fn show(name: &[u8]) {
+fn show<R: Files + Print + Eprint>(rt: &R, name: &[u8]) -> io::Result<()> {
     let mut types = sheet_printer::room();
-    let t = files::load_named(name, b"-types.bin", &mut types);
+    let t = files::load_named(rt, name, b"-types.bin", &mut types)?;
     let mut ids = sheet_printer::room();
-    let u = files::load_named(name, b"-ids.bin", &mut ids);
+    let u = files::load_named(rt, name, b"-ids.bin", &mut ids)?;
     let mut sheet = sheet_printer::room();
-    let n = files::load_named(name, b"-sheet.bin", &mut sheet);
+    let n = files::load_named(rt, name, b"-sheet.bin", &mut sheet)?;
     let mut out = line_buffer();
-    sheet_printer::print_lines(&types[..t], &ids[..u], &sheet[..n], &mut out);
+    sheet_printer::print_lines(rt, &types[..t], &ids[..u], &sheet[..n], &mut out)?;
+    Ok(())
 }
 
-fn argument(i: usize) {
-    let mut name = io::buffer();
-    let n = os::arg(i, &mut name);
-    show(&name[..n]);
+// Whether there is such an argument.
+fn argument<R: Env + Files + Print + Eprint>(rt: &R, i: usize) -> io::Result<bool> {
+    let mut name = files::buffer();
+    let Some(n) = files::argument(rt, i, &mut name) else {
+        return Ok(false);
+    };
+    show(rt, &name[..n])?;
+    Ok(true)
 }
 
-fn main() {
-    let count = os::arg_count();
-    let mut i = 1;
-    while i < count {
-        argument(i);
-        i += 1;
+fn main(rt: HostRuntime) -> io::Result<()> {
+    for i in 1..usize::MAX {
+        if !argument(&rt, i)? {
+            break;
+        }
     }
+    Ok(())
 }

@@ -6,7 +6,8 @@ use checked_calls::answer::Answer;
 use checked_calls::calls::SizeAnswer;
 use codeview::index::{IdIndex, TypeIndex};
 use files::{decimal, hex, refused, say};
-use libc::STDERR_FILENO;
+use std::io;
+use std::rt::{Env, Files};
 use streams::chains::check_stream;
 use streams::refusal::StreamKind;
 use streams::stream::StreamCheck;
@@ -20,140 +21,167 @@ enum Call {
     Size,
 }
 
-fn show(out: &[u8], n: usize) {
-    say(b" 0 0x0 ");
+fn show(rt: &impl Print, out: &[u8], n: usize) -> io::Result<()> {
+    say(rt, b" 0 0x0 ")?;
     let k = files::within(n, out);
-    say(&out[..k]);
+    say(rt, &out[..k])
 }
 
-fn text_answer(out: &[u8], a: Answer) {
+fn text_answer(rt: &impl Print, out: &[u8], a: Answer) -> io::Result<()> {
     match a {
-        Answer::Text(n) => show(out, n),
-        Answer::Refused(f) => refused(f),
+        Answer::Text(n) => show(rt, out, n),
+        Answer::Refused(f) => refused(rt, f),
     }
 }
 
-fn id_call(types: &[u8], ids: &[u8], flags: u32, index: u32) {
-    let mut out = io::buffer();
+fn id_call(rt: &impl Print, types: &[u8], ids: &[u8], flags: u32, index: u32) -> io::Result<()> {
+    let mut out = files::buffer();
     let a = type_formatter::format_id(types, ids, &mut out, flags, 8, IdIndex(index));
-    text_answer(&out, a);
+    text_answer(rt, &out, a)
 }
 
-fn type_call(types: &[u8], flags: u32, index: u32) {
-    let mut out = io::buffer();
+fn type_call(rt: &impl Print, types: &[u8], flags: u32, index: u32) -> io::Result<()> {
+    let mut out = files::buffer();
     let a = type_formatter::format_type(types, &mut out, flags, 8, TypeIndex(index));
-    text_answer(&out, a);
+    text_answer(rt, &out, a)
 }
 
-fn function_call(types: &[u8], flags: u32, index: u32) {
-    let mut out = io::buffer();
+fn function_call(rt: &impl Print, types: &[u8], flags: u32, index: u32) -> io::Result<()> {
+    let mut out = files::buffer();
     let a = type_formatter::format_function(types, &mut out, flags, 8, b"f", TypeIndex(index));
-    text_answer(&out, a);
+    text_answer(rt, &out, a)
 }
 
-fn size_call(types: &[u8], index: u32) {
+fn size_call(rt: &impl Print, types: &[u8], index: u32) -> io::Result<()> {
     match type_formatter::get_type_size(types, 8, TypeIndex(index)) {
-        SizeAnswer::Bytes(n) => decimal(b" 0 0x0 ", n),
-        SizeAnswer::Refused(f) => refused(f),
+        SizeAnswer::Bytes(n) => decimal(rt, b" 0 0x0 ", n),
+        SizeAnswer::Refused(f) => refused(rt, f),
     }
 }
 
-fn line(types: &[u8], ids: &[u8], call: Call, flags: u32, index: u32) {
-    hex(b"0x", index);
+fn line(
+    rt: &impl Print,
+    types: &[u8],
+    ids: &[u8],
+    call: Call,
+    flags: u32,
+    index: u32,
+) -> io::Result<()> {
+    hex(rt, b"0x", index)?;
     match call {
-        Call::Id => id_call(types, ids, flags, index),
-        Call::Type => type_call(types, flags, index),
-        Call::Function => function_call(types, flags, index),
-        Call::Size => size_call(types, index),
+        Call::Id => id_call(rt, types, ids, flags, index)?,
+        Call::Type => type_call(rt, types, flags, index)?,
+        Call::Function => function_call(rt, types, flags, index)?,
+        Call::Size => size_call(rt, types, index)?,
     }
-    say(b"\n");
+    say(rt, b"\n")
 }
 
-fn lines(types: &[u8], ids: &[u8], call: Call, flags: u32, first: u32, end: u32) {
+fn lines(
+    rt: &impl Print,
+    types: &[u8],
+    ids: &[u8],
+    call: Call,
+    flags: u32,
+    first: u32,
+    end: u32,
+) -> io::Result<()> {
     let mut index = first;
     while index < end {
-        line(types, ids, call, flags, index);
+        line(rt, types, ids, call, flags, index)?;
         index += 1;
     }
+    Ok(())
 }
 
-fn all_types(types: &[u8], call: Call, flags: u32) {
+fn all_types(rt: &impl Print, types: &[u8], call: Call, flags: u32) -> io::Result<()> {
     let mut places = [0u32; 1];
     let a = check_stream(types, StreamKind::Types, &mut places);
     let c = a.check;
     match c {
-        StreamCheck::Good(stream) => lines(types, b"", call, flags, stream.first, stream.end),
-        StreamCheck::Refused(_) => say(b"types refused\n"),
+        StreamCheck::Good(stream) => lines(rt, types, b"", call, flags, stream.first, stream.end),
+        StreamCheck::Refused(_) => say(rt, b"types refused\n"),
     }
 }
 
-fn all_ids(types: &[u8], ids: &[u8], flags: u32) {
+fn all_ids(rt: &impl Print, types: &[u8], ids: &[u8], flags: u32) -> io::Result<()> {
     let mut places = [0u32; 1];
     let a = check_stream(ids, StreamKind::Ids, &mut places);
     let c = a.check;
     match c {
-        StreamCheck::Good(stream) => lines(types, ids, Call::Id, flags, stream.first, stream.end),
-        StreamCheck::Refused(_) => say(b"ids refused\n"),
+        StreamCheck::Good(stream) => lines(
+            rt,
+            types,
+            ids,
+            Call::Id,
+            flags,
+            stream.first,
+            stream.end,
+        ),
+        StreamCheck::Refused(_) => say(rt, b"ids refused\n"),
     }
 }
 
-fn title(what: &[u8], flags: u32) {
-    say(what);
-    hex(b" flags 0x", flags);
-    say(b"\n");
+fn title(rt: &impl Print, what: &[u8], flags: u32) -> io::Result<()> {
+    say(rt, what)?;
+    hex(rt, b" flags 0x", flags)?;
+    say(rt, b"\n")
 }
 
-fn texts(types: &[u8], ids: &[u8], flags: u32) {
-    title(b"ids", flags);
-    all_ids(types, ids, flags);
-    title(b"types", flags);
-    all_types(types, Call::Type, flags);
-    title(b"functions", flags);
-    all_types(types, Call::Function, flags);
+fn texts(rt: &impl Print, types: &[u8], ids: &[u8], flags: u32) -> io::Result<()> {
+    title(rt, b"ids", flags)?;
+    all_ids(rt, types, ids, flags)?;
+    title(rt, b"types", flags)?;
+    all_types(rt, types, Call::Type, flags)?;
+    title(rt, b"functions", flags)?;
+    all_types(rt, types, Call::Function, flags)
 }
 
 // Flags: none; NO_FUNCTION_RETURN and NO_ARGUMENTS; the other four together; all six.
-fn report(types: &[u8], ids: &[u8]) {
-    texts(types, ids, 0);
-    texts(types, ids, 0b10_0001);
-    texts(types, ids, 0b01_1110);
-    texts(types, ids, 0b11_1111);
-    say(b"sizes\n");
-    all_types(types, Call::Size, 0);
+fn report(rt: &impl Print, types: &[u8], ids: &[u8]) -> io::Result<()> {
+    texts(rt, types, ids, 0)?;
+    texts(rt, types, ids, 0b10_0001)?;
+    texts(rt, types, ids, 0b01_1110)?;
+    texts(rt, types, ids, 0b11_1111)?;
+    say(rt, b"sizes\n")?;
+    all_types(rt, types, Call::Size, 0)
 }
 
-fn show_pair(name: &[u8]) {
-    say(b"== ");
-    say(name);
-    say(b"\n");
-    let mut types = io::large_buffer();
-    let t = files::load_named(name, b"-types.bin", &mut types);
-    let mut ids = io::large_buffer();
-    let u = files::load_named(name, b"-ids.bin", &mut ids);
-    report(&types[..t], &ids[..u]);
+fn show_pair<R: Files + Print + Eprint>(rt: &R, name: &[u8]) -> io::Result<()> {
+    say(rt, b"== ")?;
+    say(rt, name)?;
+    say(rt, b"\n")?;
+    let mut types = files::large_buffer();
+    let t = files::load_named(rt, name, b"-types.bin", &mut types)?;
+    let mut ids = files::large_buffer();
+    let u = files::load_named(rt, name, b"-ids.bin", &mut ids)?;
+    report(rt, &types[..t], &ids[..u])
 }
 
-fn argument(i: usize) {
-    let mut name = io::buffer();
-    let n = os::arg(i, &mut name);
-    show_pair(&name[..n]);
+fn usage(rt: &impl Eprint) -> io::Result<()> {
+    rt.eprint(
+        "test_vectors: prints the texts and sizes of pairs of streams\nusage: test_vectors NAME...    for NAME-types.bin and NAME-ids.bin, as `llvm-pdbutil export` writes them\n",
+    )
 }
 
-fn usage() {
-    io::write_all(
-        STDERR_FILENO,
-        b"test_vectors: prints the texts and sizes of pairs of streams\nusage: test_vectors NAME...    for NAME-types.bin and NAME-ids.bin, as `llvm-pdbutil export` writes them\n",
-    );
+// Whether there is such an argument.
+fn argument<R: Env + Files + Print + Eprint>(rt: &R, i: usize) -> io::Result<bool> {
+    let mut name = files::buffer();
+    let Some(n) = files::argument(rt, i, &mut name) else {
+        return Ok(false);
+    };
+    show_pair(rt, &name[..n])?;
+    Ok(true)
 }
 
-fn main() {
-    let count = os::arg_count();
-    if count < 2 {
-        usage();
+fn main(rt: HostRuntime) -> io::Result<()> {
+    if files::argument_count(&rt) < 2 {
+        usage(&rt)?;
     }
-    let mut i = 1;
-    while i < count {
-        argument(i);
-        i += 1;
+    for i in 1..usize::MAX {
+        if !argument(&rt, i)? {
+            break;
+        }
     }
+    Ok(())
 }
