@@ -3,13 +3,12 @@
 #
 #     tools/edits.sh [CRATE...]
 #
-# Works on a copy. Ends with a non-zero status where an edit is not refused.
+# Works on a copy. Ends with a non-zero status where an edit is not refused, or is bad.
 set -e
 root=$(cd "$(dirname "$0")/.." && pwd)
 work=$(mktemp -d)
 trap 'rm -rf "$work"' EXIT
-cp -r "$root/crates" "$root/crates.txt" "$work"
-if [ -d "$root/target" ]; then cp -r "$root/target" "$work"; fi
+(cd "$root" && tar cf - --exclude=out crates crates.txt) | (cd "$work" && tar xf -)
 rm -rf "$work"/crates/*/must-fail
 cd "$root/edits"
 if [ $# -eq 0 ]; then set -- *; fi

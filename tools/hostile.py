@@ -1,7 +1,7 @@
 #!/usr/bin/env python3
 """Runs `names` on streams that are made to take long, within its limits: 16,384 bytes of each file, texts of 4,096 bytes.
 
-    hostile.py NAMES [CASE..]       NAMES is the program, target/bin/names
+    hostile.py NAMES [CASE..]       NAMES is the program, crates/names/out/names
 
 Each case is a type whose text has as little as can be for as much work as can be. It is asked for once, and then by a sheet of as many commands as a
 sheet holds, all the same. The lines are compared with those that stand beside the cases here. The times are CPU times."""

@@ -2,13 +2,13 @@
 # Runs the program `names` itself, beside the gate: on each case of crates/test_sheets, in a folder of its own with the case's types.bin, ids.bin and sheet.bin, one
 # of them without ids.bin, and compares what it prints with the lines that `test_sheets` is held to.
 #
-#     rt check names && tools/test-names.sh
+#     (cd crates/names && rt run) && tools/test-names.sh
 #
 # The last line is 'test-names: passed'; else the status is not 0.
 set -eu
 root=$(cd "$(dirname "$0")/.." && pwd)
-names=$root/target/bin/names
-[ -x "$names" ] || { echo "test-names: $names is not there: run rt check names" >&2; exit 1; }
+names=$root/crates/names/out/names
+[ -x "$names" ] || { echo "test-names: $names is not there: run rt run in crates/names" >&2; exit 1; }
 work=$(mktemp -d)
 trap 'rm -rf "$work"' EXIT
 cd "$work"

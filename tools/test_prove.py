@@ -131,9 +131,11 @@ class CycleNames(unittest.TestCase):
     def test_the_longest_name(self):
         self.assertEqual(longest_module('c', '+a+bc'), (len('Rattle·c·proofs.proofs.+a+bc.Proof.Common'.encode()), 'Rattle·c·proofs.proofs.+a+bc.Proof.Common'))
         for cycle in cycles_in(proofs_folder('emit')):
-            length, _ = longest_module('emit', cycle)
-            self.assertLessEqual(length, LONGEST)
-            self.assertEqual(longest_module('emit', '+' + 'x' * (LONGEST - length) + cycle)[0], LONGEST + 1)
+            self.assertLessEqual(longest_module('emit', cycle)[0], LONGEST)
+        # a cycle that is named after its members, as older kits named them
+        cycle = '+args+base+emit_arg_list+emit_array+emit_member_ptr+emit_method_args+emit_modifier+emit_other_ptr+emit_proc_ptr+emit_ptr+emit_ptr_helper+emit_return_type+emit_type+emit_type_index+emit_type_inner'
+        length, _ = longest_module('emit', cycle)
+        self.assertEqual(longest_module('emit', '+' + 'x' * (LONGEST - length) + cycle)[0], LONGEST + 1)
 
 
 if __name__ == '__main__':
