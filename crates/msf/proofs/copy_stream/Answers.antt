@@ -10,7 +10,6 @@ number_at-requires c = let r = ready c.args.file.now c.args.s c.args.number (len
 pub overflow_add-first : goal.overflow_add-first
 overflow_add-first c = omega (arith, c.wide.ensures.1)
 
--- TODO well-formed
 pub listed-requires : goal.listed-requires
 listed-requires c = let r = ready c.args.file.now c.args.s c.args.number (length c.args.out.now) c.requires in (r.sound, omega (arith, c.wide-2.ensures.0, r.there, r.few, c.well_formed.1.1.0))
 
@@ -26,7 +25,6 @@ number_at-size-requires c = let r = ready c.args.file.now c.args.s c.args.number
 pub blocks_for-requires : goal.blocks_for-requires
 blocks_for-requires c = let r = ready c.args.file.now c.args.s c.args.number (length c.args.out.now) c.requires in omega (arith, r.sound.least)
 
--- TODO well-formed
 pub copy_blocks-requires : goal.copy_blocks-requires
 copy_blocks-requires c = let r = ready c.args.file.now c.args.s c.args.number (length c.args.out.now) c.requires in rw (c.wide-4.ensures.0, c.blocks_for.ensures.0, c.number_at-size.ensures, c.wide-3.ensures.0, c.listed.ensures.0, c.wide-2.ensures.0, c.wide.ensures.0, c.number_at.ensures) (r.sound, r.blocks, omega (arith, r.few, c.well_formed.1.1.0), r.fits)
 

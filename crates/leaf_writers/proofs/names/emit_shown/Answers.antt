@@ -26,7 +26,6 @@ returns-then-end-len c = record { is = rw run-say (run-last _ c.args.name.now _ 
 pub part_at-requires : goal.part_at-requires
 part_at-requires c = omega (arith, run-within c.args.name.now c.loop-at.at _ c.run_end-end.ensures c.loop-at.invariant.0, c.if-end-len.false)
 
--- TODO well-formed
 pub overflow_add-at : goal.overflow_add-at
 overflow_add-at c = omega (arith, c.well_formed.1.1.0.0, part-behind c.args.name.now c.loop-at.at _ _ c.run_end-end.ensures c.loop-at.invariant.0 c.if-end-len.false c.part_at.ensures)
 

@@ -24,7 +24,6 @@ slice_bounds-full_of-start c = omega (arith, record-within _ _ c.record_at.ensur
 pub slice_bounds-full_of-end : goal.slice_bounds-full_of-end
 slice_bounds-full_of-end c = omega (arith, record-within _ _ c.record_at.ensures _ _ _ c.in-Record.is, ap (λ (l : List ℕ). length l) c.records_of-records.ensures, length-take c.args.stream.stop c.args.types.now)
 
--- TODO well-formed
 pub full_of-requires : goal.full_of-requires
 full_of-requires c = let h = record-within _ _ c.record_at.ensures _ _ _ c.in-Record.is in let i = h.0 in omega (arith, part_end c.args.types.now c.in-Record.start c.in-Record.end (i, omega (arith, h.1, ap (λ (l : List ℕ). length l) c.records_of-records.ensures, length-take c.args.stream.stop c.args.types.now)), h.1, ap (λ (l : List ℕ). length l) c.records_of-records.ensures, length-take c.args.stream.stop c.args.types.now, c.well_formed)
 

@@ -16,7 +16,6 @@ slice_bounds-behind_records-end c = omega (arith, c.if-s-from.false)
 pub returns-in_default : goal.returns-in_default
 returns-in_default c = ap (moved_place _) (sym c.in_default.is) ∙ place-moved _ _ _ c.behind_records-2.ensures
 
--- TODO well-formed
 pub overflow_add-result : goal.overflow_add-result
 overflow_add-result c = omega (arith, c.well_formed.0.0, place-fits c.args.s.now c.args.from c.args.count c.if-s-from.false c.behind_records-2.ensures _ c.in-At.is)
 

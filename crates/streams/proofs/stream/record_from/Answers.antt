@@ -18,11 +18,9 @@ slice_bounds-record_behind-start c = omega (arith, c.if-s-from.false)
 pub slice_bounds-record_behind-end : goal.slice_bounds-record_behind-end
 slice_bounds-record_behind-end c = omega (arith, c.if-s-from.false)
 
--- TODO well-formed
 pub overflow_add-result : goal.overflow_add-result
 overflow_add-result c = omega (arith, c.well_formed.0.0, (found-fits c.args.s.now c.args.from c.args.count c.if-s-from.false c.record_behind.ensures _ _ _ c.in-Record.is).0)
 
--- TODO well-formed
 pub overflow_add-result-in-Record : goal.overflow_add-result-in-Record
 overflow_add-result-in-Record c = omega (arith, c.well_formed.0.0, (found-fits c.args.s.now c.args.from c.args.count c.if-s-from.false c.record_behind.ensures _ _ _ c.in-Record.is).1)
 
