@@ -59,12 +59,16 @@ def longer_shape():
 
 class Files(unittest.TestCase):
     def test_answers_are_shown_as_they_are_read(self):
-        for path in glob.glob('crates/*/answers/*.ans'):
+        paths = glob.glob('tools/proofs/samples/*.ans')
+        self.assertTrue(paths)
+        for path in paths:
             with self.subTest(path):
                 self.assertEqual(show_answers(read_answers(read(path))), read(path))
 
     def test_shapes_are_shown_as_they_are_read(self):
-        for path in glob.glob('crates/*/answers/*.shape'):
+        paths = glob.glob('tools/proofs/samples/*.shape')
+        self.assertTrue(paths)
+        for path in paths:
             with self.subTest(path):
                 self.assertEqual(show_shapes(load_shapes(path)), read(path))
 
