@@ -1,4 +1,5 @@
 -- Laws of batches: a call with less room answers the same or that there is none; one text behind the others; what is left at the end. Assumes nothing.
+use Rattle.std.specs.Prelude.{Result, Ok, Err}
 use Prim.Native.Nat.{ℕ, zero, suc, ◌+◌, ◌-◌, ◌*◌, ◌/◌, ◌≤◌, ◌<◌, min}
 use mathlib.Core.Path.{◌≡◌, refl, ap, sym, ◌∙◌}
 use mathlib.Core.Bool.{Bool, true, false, ◌&&◌}
@@ -20,8 +21,6 @@ use Rattle.interpreter.specs.Trace.{Trace, tr}
 use Rattle.rules.specs.Places.{Near}
 use Rattle.rules.specs.Call.{Outcome, text, stopped, answer, within, id_outcome, type_outcome, Report, of_text}
 use Rattle.checked_calls.specs.Answers.{of_answer, settled, laid, text_of}
-use Rattle.checked_calls.specs.declared.answer.Answer.{Answer}
-use Rattle.checked_calls.specs.declared.answer.Answer.TheVariants.{Text, Refused}
 use Rattle.checked_calls.specs.Checks.{id_over, type_over}
 use Rattle.checked_calls.specs.Kept.{KeptOf, Kept}
 use Rattle.checked_calls.proofs.AnswerLaws.{settled-told, settled-text}
@@ -50,7 +49,7 @@ texts-grow Types types ids v flags size i a b h f = within-grows _ a b h f
 texts-grow Ids types ids v flags size i a b h f = within-grows _ a b h f
 
 -- The ends of `leaves_off`.
-pub stays-text : (at : ℕ) {a : Answer} {n : ℕ} → a ≡ Text n → false ≡ leaves_off at (of_answer a)
+pub stays-text : (at : ℕ) {a : (Result ℕ Refusal)} {n : ℕ} → a ≡ Ok n → false ≡ leaves_off at (of_answer a)
 unfolding leaves_off of_answer
 stays-text at e = rw e (by (ltb 0 at))
   where
@@ -62,7 +61,7 @@ pub stays-first : (t : Report) {at : ℕ} → at ≡ 0 → false ≡ leaves_off 
 unfolding leaves_off
 stays-first t e = rw e refl
 
-pub leaves_by : (at : ℕ) {a : Answer} {f : Refusal} {n : ℕ} → a ≡ Refused f → 0 < at → n ≡ number_of f → eqb n 15 ≡ leaves_off at (of_answer a)
+pub leaves_by : (at : ℕ) {a : (Result ℕ Refusal)} {f : Refusal} {n : ℕ} → a ≡ Err f → 0 < at → n ≡ number_of f → eqb n 15 ≡ leaves_off at (of_answer a)
 unfolding leaves_off of_answer
 leaves_by at e h g = rw (e, lt-ltb 0 at h, g) refl
 
@@ -85,12 +84,12 @@ four-set (w ∷ x ∷ y ∷ []) a b c d e = absurd (omega arith)
 four-set (w ∷ x ∷ y ∷ z ∷ []) a b c d e = refl
 four-set (w ∷ x ∷ y ∷ z ∷ u ∷ us) a b c d e = absurd (omega arith)
 
-module _ (at : ℕ) {a : Answer} {to : List ℕ} where
-  pub noted-text : {n : ℕ} → a ≡ Text n → to ≡ 0 ∷ 0 ∷ at ∷ n ∷ [] → (n ≡ (of_answer a).value) × (to ≡ entry at (of_answer a))
+module _ (at : ℕ) {a : (Result ℕ Refusal)} {to : List ℕ} where
+  pub noted-text : {n : ℕ} → a ≡ Ok n → to ≡ 0 ∷ 0 ∷ at ∷ n ∷ [] → (n ≡ (of_answer a).value) × (to ≡ entry at (of_answer a))
   unfolding of_answer
   noted-text e t = rw e (refl, t)
 
-  pub noted-refused : {f : Refusal} {n d : ℕ} → a ≡ Refused f → n ≡ number_of f → d ≡ detail_of f → to ≡ n ∷ d ∷ at ∷ 0 ∷ [] → (0 ≡ (of_answer a).value) × (to ≡ entry at (of_answer a))
+  pub noted-refused : {f : Refusal} {n d : ℕ} → a ≡ Err f → n ≡ number_of f → d ≡ detail_of f → to ≡ n ∷ d ∷ at ∷ 0 ∷ [] → (0 ≡ (of_answer a).value) × (to ≡ entry at (of_answer a))
   unfolding of_answer
   noted-refused e n d t = rw (e, ← n, ← d) (refl, t)
 
@@ -130,7 +129,7 @@ unfolding text_of of_text
 text-length (text bs n) = refl
 text-length (stopped f) = refl
 
-value_room : (part buf : List ℕ) (o : Outcome) (a : Answer) → settled part a ≡ laid buf o → (of_answer a).value ≤ length part
+value_room : (part buf : List ℕ) (o : Outcome) (a : (Result ℕ Refusal)) → settled part a ≡ laid buf o → (of_answer a).value ≤ length part
 value_room part buf o a s = by (dec_le (of_answer a).value (length part))
   where
     by : Dec ((of_answer a).value ≤ length part) → (of_answer a).value ≤ length part
@@ -196,7 +195,7 @@ module _ (call : ℕ → ℕ → Outcome) (out₀ answers₀ is : List ℕ) wher
         by (no l) = let z : length answers₀ / 4 - done ≡ 0 = omega arith in rw z (from_zero call (length out₀) bytes (drop done is))
 
     -- the next index, and what its call left in the rest of the buffer
-    module _ {n : ℕ} (e : n ≡ min (length is) (length answers₀ / 4)) (h : done < n) (part : List ℕ) (a : Answer)
+    module _ {n : ℕ} (e : n ≡ min (length is) (length answers₀ / 4)) (h : done < n) (part : List ℕ) (a : (Result ℕ Refusal))
         (s : settled part a ≡ laid (take (length out - bytes) (drop bytes out)) (call (get_or is done 0) (length (take (length out - bytes) (drop bytes out)))))
         (p : length part ≡ length (take (length out - bytes) (drop bytes out))) where
       here : Outcome

@@ -2,15 +2,15 @@
 #![tactic(auto)]
 
 ghost use Rattle.std.specs.Prelude.{◌≡◌, ◌∷◌, [], ◌≤◌, length};
-ghost use Rattle.rules.specs.Places.{near};
+ghost use Rattle.rules.specs.Places.{near_in};
 ghost use Rattle.checked_calls.specs.Answers.{of_answer, settled, laid};
 ghost use Rattle.batch.specs.Batch.{entry, leaves_off, batched, laid_batch, GoesOn, texts_over, batch_over, Laying};
 
-use checked_calls::answer::Answer;
 use checked_calls::calls::{id_text, type_text};
 use codeview::index::{IdIndex, TypeIndex};
-use streams::refusal::StreamKind;
-use wire::bytes::{clear, shorter};
+use codeview::lent::Lent;
+use streams::refusal::{Refusal, StreamKind};
+use wire::bytes::clear;
 
 // How many indexes are done, and how many bytes their texts have.
 #[derive(Clone, Copy)]
@@ -22,30 +22,27 @@ pub struct Laid {
 // The text of a type or of an id.
 fn text_of(
     which: StreamKind,
-    types: &[u8],
-    ids: &[u8],
-    bounds: &[u32],
-    places: &[u32],
+    lent: &Lent,
     out: &mut [u8],
     flags: u32,
     size: u32,
     index: u32,
-) -> Answer
-    ensures { settled out.new result ≡ laid out.old (texts_over which types.now ids.now (near bounds.now places.now) flags size index (length out.old)) }
+) -> Result<usize, Refusal>
+    ensures { settled out.new result ≡ laid out.old (texts_over which lent.now.types.now lent.now.ids.now (near_in lent.now) flags size index (length out.old)) }
 {
     match which {
-        StreamKind::Types => type_text(types, bounds, places, out, flags, size, TypeIndex(index)),
-        StreamKind::Ids => id_text(types, ids, bounds, places, out, flags, size, IdIndex(index)),
+        StreamKind::Types => type_text(lent, out, flags, size, TypeIndex(index)),
+        StreamKind::Ids => id_text(lent, out, flags, size, IdIndex(index)),
     }
 }
 
 // Whether there is too little room behind the texts that stand there.
-fn leaves_off(at: usize, a: Answer) -> bool
+fn leaves_off(at: usize, a: Result<usize, Refusal>) -> bool
     ensures { result ≡ leaves_off at (of_answer a) }
 {
     match a {
-        Answer::Text(n) => false,
-        Answer::Refused(f) => {
+        Ok(n) => false,
+        Err(f) => {
             if at == 0 {
                 return false;
             }
@@ -65,16 +62,16 @@ fn put_four(to: &mut [u64], number: u64, detail: u64, at: u64, len: u64)
 }
 
 // The four numbers of an answer: how long its text is.
-fn note(to: &mut [u64], at: usize, a: Answer) -> usize
+fn note(to: &mut [u64], at: usize, a: Result<usize, Refusal>) -> usize
     requires { length to.old ≡ 4 }
     ensures { (result ≡ (of_answer a).value) × (to.new ≡ entry at (of_answer a)) }
 {
     match a {
-        Answer::Text(n) => {
+        Ok(n) => {
             put_four(to, 0, 0, at as u64, n as u64);
             n
         }
-        Answer::Refused(f) => {
+        Err(f) => {
             put_four(to, f.number() as u64, f.detail() as u64, at as u64, 0);
             0
         }
@@ -84,34 +81,21 @@ fn note(to: &mut [u64], at: usize, a: Answer) -> usize
 // The texts, up to one that does not fit behind the others.
 fn lay_texts(
     which: StreamKind,
-    types: &[u8],
-    ids: &[u8],
-    bounds: &[u32],
-    places: &[u32],
+    lent: &Lent,
     out: &mut [u8],
     flags: u32,
     size: u32,
     indexes: &[u32],
     answers: &mut [u64],
 ) -> Laid
-    ensures { Laying out.old answers.old (batch_over which types.now ids.now (near bounds.now places.now) flags size (length out.old) (length answers.old) indexes.now) out.new answers.new result.bytes result.done }
+    ensures { Laying out.old answers.old (batch_over which lent.now.types.now lent.now.ids.now (near_in lent.now) flags size (length out.old) (length answers.old) indexes.now) out.new answers.new result.bytes result.done }
 {
-    let n = shorter(indexes.len(), answers.len() / 4);
+    let n = indexes.len().min(answers.len() / 4);
     let mut done: usize = 0;
     let mut bytes: usize = 0;
     while done < n {
         let text = &mut out[bytes..];
-        let a = text_of(
-            which,
-            types,
-            ids,
-            bounds,
-            places,
-            text,
-            flags,
-            size,
-            indexes[done],
-        );
+        let a = text_of(which, lent, text, flags, size, indexes[done]);
         if leaves_off(bytes, a) {
             return Laid { done, bytes };
         }
@@ -125,22 +109,17 @@ fn lay_texts(
 // The texts of types or of ids over what was kept of the checks of their streams: how many of the indexes are done. Four numbers are noted for each.
 pub fn texts_over(
     which: StreamKind,
-    types: &[u8],
-    ids: &[u8],
-    bounds: &[u32],
-    places: &[u32],
+    lent: &Lent,
     out: &mut [u8],
     flags: u32,
     size: u32,
     indexes: &[u32],
     answers: &mut [u64],
 ) -> usize
-    ensures result_after { batched out.new answers.new result ≡ laid_batch out.old answers.old (batch_over which types.now ids.now (near bounds.now places.now) flags size (length out.old) (length answers.old) indexes.now) }
-    ensures goes_on { GoesOn (length answers.old) indexes.now (batch_over which types.now ids.now (near bounds.now places.now) flags size (length out.old) (length answers.old) indexes.now) }
+    ensures result_after { batched out.new answers.new result ≡ laid_batch out.old answers.old (batch_over which lent.now.types.now lent.now.ids.now (near_in lent.now) flags size (length out.old) (length answers.old) indexes.now) }
+    ensures goes_on { GoesOn (length answers.old) indexes.now (batch_over which lent.now.types.now lent.now.ids.now (near_in lent.now) flags size (length out.old) (length answers.old) indexes.now) }
 {
-    let laid = lay_texts(
-        which, types, ids, bounds, places, out, flags, size, indexes, answers,
-    );
+    let laid = lay_texts(which, lent, out, flags, size, indexes, answers);
     let bytes = laid.bytes;
     let rest = &mut out[bytes..];
     clear(rest);

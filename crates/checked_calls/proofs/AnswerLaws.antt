@@ -1,4 +1,5 @@
 -- What a text call answers is the outcome of its trace, read off the page that the trace left. Assumes nothing.
+use Rattle.std.specs.Prelude.{Result, Ok, Err}
 use Prim.Native.Nat.{ℕ, ◌+◌, ◌<◌, ◌≤◌}
 use mathlib.Core.Path.{◌≡◌, refl, ap, ap₂, sym, ◌∙◌}
 use mathlib.Core.List.{List, []}
@@ -19,26 +20,24 @@ use Rattle.pen.specs.declared.Stop.{Stop}
 use Rattle.pen.specs.declared.Stop.TheVariants as stop
 use Rattle.rules.specs.Call.{Outcome, text, stopped, answer, within, buffer_after, Report, refused_by, accepted, of_text}
 use Rattle.rules.proofs.Demand.{numbered}
-use Rattle.checked_calls.specs.declared.answer.Answer.{Answer}
-use Rattle.checked_calls.specs.declared.answer.Answer.TheVariants.{Text, Refused}
-use Rattle.checked_calls.specs.Answers.{Result, of_answer, given, laid, text_of, settled, started, answered_by}
+use Rattle.checked_calls.specs.Answers.{Left, of_answer, given, laid, text_of, settled, started, answered_by}
 
 -- the ends of `answer_of` and of `settle`
 module _ (p : Pen) where
-  pub answered-no : (read_pen p).stop ≡ stop.No → Text p.at ≡ answered_by (read_pen p).stop p.at
+  pub answered-no : (read_pen p).stop ≡ stop.No → Ok p.at ≡ answered_by (read_pen p).stop p.at
   answered-no e = rw e refl
 
-  pub answered-missing : (i : ℕ) → (read_pen p).stop ≡ stop.Missing i → Refused (refusal.Missing i) ≡ answered_by (read_pen p).stop p.at
+  pub answered-missing : (i : ℕ) → (read_pen p).stop ≡ stop.Missing i → Err (refusal.Missing i) ≡ answered_by (read_pen p).stop p.at
   answered-missing i e = rw e refl
 
-  pub answered-refused : (f : Refusal) → (read_pen p).stop ≡ stop.Refused f → Refused f ≡ answered_by (read_pen p).stop p.at
+  pub answered-refused : (f : Refusal) → (read_pen p).stop ≡ stop.Refused f → Err f ≡ answered_by (read_pen p).stop p.at
   answered-refused f e = rw e refl
 
-pub settle-text : (b : List ℕ) {a : Answer} {n : ℕ} → a ≡ Text n → given b (Text n) ≡ settled b a
+pub settle-text : (b : List ℕ) {a : (Result ℕ Refusal)} {n : ℕ} → a ≡ Ok n → given b (Ok n) ≡ settled b a
 unfolding settled of_answer
 settle-text b e = rw e refl
 
-pub settle-refused : (b : List ℕ) {c : List ℕ} {a : Answer} {f : Refusal} → c ≡ replicate (length b) 0 → a ≡ Refused f → given c (Refused f) ≡ settled b a
+pub settle-refused : (b : List ℕ) {c : List ℕ} {a : (Result ℕ Refusal)} {f : Refusal} → c ≡ replicate (length b) 0 → a ≡ Err f → given c (Err f) ≡ settled b a
 unfolding settled of_answer
 settle-refused b g e = rw (g, e) refl
 
@@ -50,10 +49,10 @@ text-taken buf (stopped f) = refl
 
 -- the same of a call that may leave what was written: what it tells, and its text
 module _ (b buf : List ℕ) (o : Outcome) where
-  pub settled-told : (a : Answer) → settled b a ≡ laid buf o → of_answer a ≡ of_text o
+  pub settled-told : (a : (Result ℕ Refusal)) → settled b a ≡ laid buf o → of_answer a ≡ of_text o
   unfolding settled laid of_answer
-  settled-told (Text n) e = ap (λ (r : Result). r.told) e
-  settled-told (Refused f) e = ap (λ (r : Result). r.told) e
+  settled-told (Ok n) e = ap (λ (r : Left). r.told) e
+  settled-told (Err f) e = ap (λ (r : Left). r.told) e
 
   none_of : (f : Refusal) → refused_by f ≡ of_text o → text_of o ≡ []
   unfolding of_text text_of
@@ -63,13 +62,13 @@ module _ (b buf : List ℕ) (o : Outcome) where
       by (text bs n) e = absurd (let z : number_of f ≡ 0 = ap (λ (r : Report). r.number) e in let h = numbered f in omega arith)
       by (stopped g) e = refl
 
-  pub settled-text : (a : Answer) → settled b a ≡ laid buf o → take (of_answer a).value b ≡ text_of o
+  pub settled-text : (a : (Result ℕ Refusal)) → settled b a ≡ laid buf o → take (of_answer a).value b ≡ text_of o
   unfolding settled laid of_answer
-  settled-text (Text n) e =
-      let t : accepted n ≡ of_text o = ap (λ (r : Result). r.told) e in
-      let l : b ≡ buffer_after buf o = ap (λ (r : Result). r.buf) e in
+  settled-text (Ok n) e =
+      let t : accepted n ≡ of_text o = ap (λ (r : Left). r.told) e in
+      let l : b ≡ buffer_after buf o = ap (λ (r : Left). r.buf) e in
       ap₂ (λ (r : Report) (c : List ℕ). take r.value c) t l ∙ text-taken buf o
-  settled-text (Refused f) e = sym (none_of f (ap (λ (r : Result). r.told) e))
+  settled-text (Err f) e = sym (none_of f (ap (λ (r : Left). r.told) e))
 
 -- the outcome by how the pen stopped
 abbrev pub answered : Stop → List ℕ → ℕ → Outcome
@@ -123,6 +122,6 @@ pub answer-is : {buf b : List ℕ} {q : Pen} {t : Trace Refusal} → Wrote (page
     → settled b (answered_by (read_pen q).stop q.at) ≡ laid buf (within (length buf) t)
 answer-is {buf} {b} {q} {t} w = laid-at buf t b q (read_pen q).stop (length buf) refl refl (wrote-length w) (gave buf (length buf) t b q w)
 
-pub refused-laid : (buf : List ℕ) (f : Refusal) → settled buf (Refused f) ≡ laid buf (stopped f)
+pub refused-laid : (buf : List ℕ) (f : Refusal) → settled buf (Err f) ≡ laid buf (stopped f)
 unfolding settled laid buffer_after of_text
 refused-laid buf f = refl

@@ -1,4 +1,5 @@
 -- What is noted of the checks is kept of them. Assumes nothing.
+use Rattle.std.specs.Prelude.{Result, Ok}
 use Prim.Native.Nat.{ℕ, ◌-◌, ◌≤◌}
 use mathlib.Core.Path.{◌≡◌, refl, sym, ◌∙◌, ap}
 use mathlib.Core.List.{List, [], ◌++◌, append-nil}
@@ -9,14 +10,14 @@ use Rattle.streams.specs.Stream.{checked}
 use Rattle.streams.specs.Places.{RightFor, NotedFor}
 use Rattle.streams.specs.Bounds.{spacing_in, check_in, places_in, bounds_of}
 use Rattle.streams.specs.declared.refusal.StreamKind.TheVariants.{Types, Ids}
-use Rattle.streams.specs.declared.stream.StreamCheck.{StreamCheck}
 use Rattle.streams.specs.declared.places.NotedCheck.{NotedCheck}
 use Rattle.streams.proofs.Numbers.{types-back, ids-back, types-spacing, ids-spacing, types-check, ids-check, ids-behind}
 use Rattle.record_places.specs.RecordPlaces.{lent_places}
-use Rattle.record_places.specs.declared.PlacesCheck.TheVariants.{Right}
 use Rattle.record_places.proofs.Pass.{lent-right}
 use Rattle.rules.specs.Places.{near}
 use Rattle.checked_calls.specs.Kept.{KeptOf, Kept, KeptBeside, note_of, LentKept}
+use Rattle.streams.specs.declared.refusal.Refusal.{Refusal}
+use Rattle.streams.specs.declared.stream.Stream.{Stream}
 
 -- The numbers of two checks, with the places of the ids behind them, and those of the types.
 module _ (a b : NotedCheck) (count : ℕ) (qs : List ℕ) {r : List ℕ} (e : r ≡ bounds_of a b count ++ qs) (ps : List ℕ) where
@@ -85,16 +86,16 @@ kept-both a types ids old ps old₁ ns n w =
     }
 
 -- Places that were lent are kept where they are those of the stream.
-lent-noted : (types ps : List ℕ) (c : StreamCheck) → c ≡ checked Types types → lent_places types ps ≡ Right → NotedFor Types types ps ps (note_of c)
+lent-noted : (types ps : List ℕ) (c : (Result Stream Refusal)) → c ≡ checked Types types → lent_places types ps ≡ (Ok tt) → NotedFor Types types ps ps (note_of c)
 lent-noted types ps c e h = record { is = e; sized = refl; right = λ t g. lent-right types ps t (sym e ∙ g) h 0xffff_ffff }
 
-module _ (c : StreamCheck) (b : NotedCheck) (count : ℕ) (qs : List ℕ) {r : List ℕ} (e : r ≡ bounds_of (note_of c) b count ++ qs) where
+module _ (c : (Result Stream Refusal)) (b : NotedCheck) (count : ℕ) (qs : List ℕ) {r : List ℕ} (e : r ≡ bounds_of (note_of c) b count ++ qs) where
   pub lent-kept : (types ps : List ℕ) → c ≡ checked Types types → LentKept types ps r
   lent-kept types ps h = record { check = lent-check (note_of c) b count qs e ps types h; kept = λ g. kept-types (note_of c) b count qs e ps types ps (lent-noted types ps c h g) }
 
-pub lent-alone : (c : StreamCheck) (b : NotedCheck) (count : ℕ) {r : List ℕ} → r ≡ bounds_of (note_of c) b count → (types ps : List ℕ) → c ≡ checked Types types → LentKept types ps r
+pub lent-alone : (c : (Result Stream Refusal)) (b : NotedCheck) (count : ℕ) {r : List ℕ} → r ≡ bounds_of (note_of c) b count → (types ps : List ℕ) → c ≡ checked Types types → LentKept types ps r
 lent-alone c b count e types ps h = lent-kept c b count [] (e ∙ sym (append-nil (bounds_of (note_of c) b count))) types ps h
 
-pub lent-beside : (c : StreamCheck) (ids old new : List ℕ) {a : NotedCheck} → a ≡ note_of c → KeptBeside a ids old new → (types ps : List ℕ) → c ≡ checked Types types → LentKept types ps new × KeptOf Ids ids (near new ps)
+pub lent-beside : (c : (Result Stream Refusal)) (ids old new : List ℕ) {a : NotedCheck} → a ≡ note_of c → KeptBeside a ids old new → (types ps : List ℕ) → c ≡ checked Types types → LentKept types ps new × KeptOf Ids ids (near new ps)
 lent-beside c ids old new {a} f w types ps h =
     (lent-kept c w.b (length old - 19) (drop 19 new) (rw f at w.is) types ps h, kept-ids a w.b (length old - 19) (drop 19 new) w.is ps ids (drop 19 old) w.noted)

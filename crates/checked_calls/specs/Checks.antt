@@ -1,11 +1,9 @@
 -- What the checks of a call come to, given what is kept of the stream checks; the answer of each call over them; and what a size call tells.
-use Rattle.std.specs.Prelude.{ℕ, List, []}
+use Rattle.std.specs.Prelude.{ℕ, List, [], Result, Ok, Err}
 use Rattle.streams.specs.declared.refusal.Refusal.{Refusal}
 use Rattle.streams.specs.declared.refusal.Refusal.TheVariants.{WrongPlace}
 use Rattle.streams.specs.Bounds.{check_in}
 use Rattle.streams.specs.declared.refusal.StreamKind.TheVariants.{Types, Ids}
-use Rattle.streams.specs.declared.stream.StreamCheck.{StreamCheck}
-use Rattle.streams.specs.declared.stream.StreamCheck.TheVariants as stream
 use Rattle.interpreter.specs.Trace.{Trace}
 use Rattle.rules.specs.Flags.{sized, flagged}
 use Rattle.rules.specs.Places.{Near, Lent, beside, table_in}
@@ -15,46 +13,47 @@ use Rattle.rules.specs.Call.{Outcome, Size, refusal, within, size_answer, Report
 use Rattle.context.specs.Context.{settings_of, holding}
 use Rattle.context.specs.declared.flags.Call.{Call}
 use Rattle.context.specs.declared.flags.TypeFormatterFlags.{TypeFormatterFlags}
-use Rattle.checked_calls.specs.declared.calls.Checked.{Checked}
-use Rattle.checked_calls.specs.declared.calls.Checked.TheVariants.{Good, Refused}
-use Rattle.checked_calls.specs.declared.calls.SizeAnswer.{SizeAnswer}
-use Rattle.checked_calls.specs.declared.calls.SizeAnswer.TheVariants as size
+use Rattle.streams.specs.declared.stream.Stream.{Stream}
 
 -- The call over checked streams, with no id of a chain of scopes passed yet.
 abbrev pub call_over : TypeFormatterFlags → ℕ → Call
 call_over flags size = record { flags = flags; size = size; chain = 0 }
 
 -- What follows from the check of the types, and from the check of the ids.
-abbrev pub with_types : TypeFormatterFlags → ℕ → StreamCheck → Checked
-with_types flags size (stream.Good t) = Good (call_over flags size)
-with_types flags size (stream.Refused f) = Refused f
+abbrev pub with_types : TypeFormatterFlags → ℕ → (Result Stream Refusal) → (Result Call Refusal)
+with_types flags size (Ok t) = Ok (call_over flags size)
+with_types flags size (Err f) = Err f
 
-abbrev pub with_ids : Call → StreamCheck → Checked
-with_ids c (stream.Good u) = Good c
-with_ids c (stream.Refused f) = Refused f
+abbrev pub with_ids : Call → (Result Stream Refusal) → (Result Call Refusal)
+with_ids c (Ok u) = Ok c
+with_ids c (Err f) = Err f
 
-abbrev pub and_ids : Checked → StreamCheck → Checked
-and_ids (Good c) u = with_ids c u
-and_ids (Refused f) u = Refused f
+abbrev pub and_ids : (Result Call Refusal) → (Result Stream Refusal) → (Result Call Refusal)
+and_ids (Ok c) u = with_ids c u
+and_ids (Err f) u = Err f
 
 -- "Call checks come first, then stream checks (types, then ids where the call is for an id)": the pointer size and the types; before them the flags; and
 -- after them the ids.
-unfoldable pub types_by : StreamCheck → TypeFormatterFlags → ℕ → Checked
-types_by t flags size = sized size (with_types flags size t) Refused
+unfoldable pub types_by : (Result Stream Refusal) → TypeFormatterFlags → ℕ → (Result Call Refusal)
+types_by t flags size = sized size (with_types flags size t) Err
 
-unfoldable pub call_by : StreamCheck → ℕ → ℕ → Checked
-call_by t flags size = flagged flags (types_by t (record { 0 = flags }) size) Refused
+unfoldable pub call_by : (Result Stream Refusal) → ℕ → ℕ → (Result Call Refusal)
+call_by t flags size = flagged flags (types_by t (record { 0 = flags }) size) Err
 
-unfoldable pub ids_by : StreamCheck → StreamCheck → ℕ → ℕ → Checked
+unfoldable pub ids_by : (Result Stream Refusal) → (Result Stream Refusal) → ℕ → ℕ → (Result Call Refusal)
 ids_by t u flags size = and_ids (call_by t flags size) u
 
 -- What a call reads: the walk of its task where its checks are good, and else their refusal.
-abbrev pub performed : Checked → (Call → Trace Refusal) → Trace Refusal
-performed (Good c) k = k c
-performed (Refused f) k = refusal f
+abbrev pub performed : (Result Call Refusal) → (Call → Trace Refusal) → Trace Refusal
+performed (Ok c) k = k c
+performed (Err f) k = refusal f
 
--- What a call reads of whose lent places an entry is wrong (document 02, Note 3): 17, where its checks are good.
-abbrev pub unplaced : Checked → ℕ → Trace Refusal
+-- What a call is refused with of whose lent places an entry is wrong (document 02, Note 3): 17, where its checks are good; and what it reads.
+abbrev pub place_refusal : Result Call Refusal → ℕ → Refusal
+place_refusal (Ok c) k = WrongPlace k
+place_refusal (Err f) k = f
+
+abbrev pub unplaced : (Result Call Refusal) → ℕ → Trace Refusal
 unplaced r k = performed r (λ c. refusal (WrongPlace k))
 
 -- The walk of a task over a checked call, with nothing open.
@@ -89,6 +88,6 @@ size_over types v size i =
     size_answer (within 1 (performed (types_by (check_in v.bounds Types) (record { 0 = 0 }) size) (taken types (beside [] v) (size_of i 0))))
 
 -- What each case of a size answer tells.
-unfoldable pub of_size_answer : SizeAnswer → Report
-of_size_answer (size.Bytes n) = accepted n
-of_size_answer (size.Refused f) = refused_by f
+unfoldable pub of_size_answer : (Result ℕ Refusal) → Report
+of_size_answer (Ok n) = accepted n
+of_size_answer (Err f) = refused_by f

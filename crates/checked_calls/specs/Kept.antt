@@ -1,23 +1,21 @@
 -- What is kept of a check is that of these bytes: the answer of the check, and places by which every record is found where it stands. Then the calls over it are
 -- the plain calls.
-use Rattle.std.specs.Prelude.{ℕ, ◌+◌, ◌-◌, ◌/◌, ◌≤◌, ◌<◌, min, ◌≡◌, List, ◌++◌, length, take, drop, get_or, replicate}
+use Rattle.std.specs.Prelude.{ℕ, ◌+◌, ◌-◌, ◌/◌, ◌≤◌, ◌<◌, min, ◌≡◌, List, ◌++◌, length, take, drop, get_or, replicate, Result, Ok}
 use Rattle.streams.specs.Stream.{header, checked}
 use Rattle.streams.specs.Places.{RightFor, NotedFor, strided}
 use Rattle.streams.specs.Bounds.{stream_in, spacing_in, check_in, places_in, bounds_of}
 use Rattle.streams.specs.declared.refusal.StreamKind.{StreamKind}
 use Rattle.streams.specs.declared.refusal.StreamKind.TheVariants.{Types, Ids}
 use Rattle.streams.specs.declared.stream.Stream.{Stream}
-use Rattle.streams.specs.declared.stream.StreamCheck.{StreamCheck}
-use Rattle.streams.specs.declared.stream.StreamCheck.TheVariants.{Good}
 use Rattle.streams.specs.declared.places.NotedCheck.{NotedCheck}
 use Rattle.record_places.specs.RecordPlaces.{lent_places}
-use Rattle.record_places.specs.declared.PlacesCheck.TheVariants.{Right}
 use Rattle.rules.specs.Places.{Near, near}
+use Rattle.streams.specs.declared.refusal.Refusal.{Refusal}
 
 pub record KeptOf (which : StreamKind) (s : List ℕ) (v : Near) : Type 0 where
   pub check : check_in v.bounds which ≡ checked which s
-  pub stream : (t : Stream) → checked which s ≡ Good t → stream_in v.bounds which ≡ t
-  pub right : (t : Stream) → checked which s ≡ Good t → RightFor (spacing_in v.bounds which) (places_in v.bounds v.places which) s t
+  pub stream : (t : Stream) → checked which s ≡ Ok t → stream_in v.bounds which ≡ t
+  pub right : (t : Stream) → checked which s ≡ Ok t → RightFor (spacing_in v.bounds which) (places_in v.bounds v.places which) s t
 
 -- Of both streams.
 pub record Kept (types ids : List ℕ) (v : Near) : Type 0 where
@@ -32,13 +30,13 @@ pub record KeptBeside (a : NotedCheck) (ids old new : List ℕ) : Type 0 where
   pub sized : length new ≡ length old
 
 -- A check of the types whose places were lent: every 64th record has one (document 02, Note 3).
-abbrev pub note_of : StreamCheck → NotedCheck
+abbrev pub note_of : (Result Stream Refusal) → NotedCheck
 note_of c = record { check = c; spacing = strided 64 0xffff_ffff }
 
 -- What is kept for a call with lent places: the check of the types, and, where the places are those of the stream, what look-ups go by.
 pub record LentKept (types ps ns : List ℕ) : Type 0 where
   pub check : check_in ns Types ≡ checked Types types
-  pub kept : lent_places types ps ≡ Right → KeptOf Types types (near ns ps)
+  pub kept : lent_places types ps ≡ (Ok tt) → KeptOf Types types (near ns ps)
 
 -- A caller's buffer: the 19 numbers and the places of the ids, as many as the last of these says, and behind them the places of the types.
 abbrev pub kept_in : List ℕ → Near

@@ -7,13 +7,6 @@ use pen::{Pen, Stop};
 use streams::refusal::Refusal;
 use wire::bytes::clear;
 
-// A text of so many bytes at the start of the buffer, or a refusal.
-#[derive(Clone, Copy)]
-pub enum Answer {
-    Text(usize),
-    Refused(Refusal),
-}
-
 // The pen before the first byte.
 pub fn start(limit: usize) -> Pen
     ensures { result ≡ started limit }
@@ -28,25 +21,23 @@ pub fn start(limit: usize) -> Pen
 }
 
 // The answer by the pen at the end. Outside every type a missing record is refusal 8.
-pub fn answer_of(p: Pen) -> Answer
+pub fn answer_of(p: Pen) -> Result<usize, Refusal>
     ensures { result ≡ answered_by (read_pen p).stop p.at }
 {
     match pen::stop_of(p) {
-        Stop::No => Answer::Text(p.at),
-        Stop::Missing(index) => Answer::Refused(Refusal::Missing(index)),
-        Stop::Refused(f) => Answer::Refused(f),
+        Stop::No => Ok(p.at),
+        Stop::Missing(index) => Err(Refusal::Missing(index)),
+        Stop::Refused(f) => Err(f),
     }
 }
 
 // The same answer; a refused call fills the buffer with zeros.
-pub fn settle(out: &mut [u8], a: Answer) -> Answer
+#[tactic(auto, unfolding(crate::specs::Answers::settled, crate::specs::Answers::of_answer))]
+pub fn settle(out: &mut [u8], a: Result<usize, Refusal>) -> Result<usize, Refusal>
     ensures { given out.new result ≡ settled out.old a }
 {
-    match a {
-        Answer::Text(n) => Answer::Text(n),
-        Answer::Refused(f) => {
-            clear(out);
-            Answer::Refused(f)
-        }
+    if a.is_err() {
+        clear(out);
     }
+    a
 }

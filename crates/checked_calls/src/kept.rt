@@ -10,13 +10,12 @@ use streams::bounds::{bounds_of, number_at, store};
 use streams::chains::check_stream;
 use streams::places::{NotedCheck, check_with_stride, strided_by, wide};
 use streams::refusal::{Refusal, StreamKind};
-use streams::stream::StreamCheck;
-use wire::bytes::shorter;
+use streams::stream::Stream;
 
 // The ids where a call is not for an id.
 fn unchecked_ids() -> NotedCheck {
     NotedCheck {
-        check: StreamCheck::Refused(Refusal::Header(StreamKind::Ids)),
+        check: Err(Refusal::Header(StreamKind::Ids)),
         spacing: strided_by(1, 0),
     }
 }
@@ -59,7 +58,7 @@ pub fn keep_both(types: &[u8], ids: &[u8], kept: &mut [u32], places: &mut [u32])
 }
 
 // What is kept for a call with lent places, by the check of the types: every 64th record has a place.
-fn by_lent(check: StreamCheck) -> NotedCheck
+fn by_lent(check: Result<Stream, Refusal>) -> NotedCheck
     ensures { result ≡ note_of check }
 {
     NotedCheck {
@@ -68,14 +67,14 @@ fn by_lent(check: StreamCheck) -> NotedCheck
     }
 }
 
-pub fn keep_lent(check: StreamCheck) -> [u32; 19]
+pub fn keep_lent(check: Result<Stream, Refusal>) -> [u32; 19]
     ensures { (types ps : List ℕ) → check ≡ checked Types types → LentKept types ps result }
 {
     bounds_of(by_lent(check), unchecked_ids(), 0)
 }
 
 // The same beside the ids' check.
-pub fn keep_lent_ids(check: StreamCheck, ids: &[u8], kept: &mut [u32])
+pub fn keep_lent_ids(check: Result<Stream, Refusal>, ids: &[u8], kept: &mut [u32])
     requires { (19 ≤ length kept.old) × (length kept.old ≤ 0xffff_ffff) }
     ensures { (types ps : List ℕ) → check ≡ checked Types types → LentKept types ps kept.new × KeptOf Ids ids.now (near kept.new ps) }
 {
@@ -86,7 +85,7 @@ pub fn keep_lent_ids(check: StreamCheck, ids: &[u8], kept: &mut [u32])
 fn split_of(checked: &[u32]) -> usize
     ensures { result ≡ min (19 + get_or checked.now 18 0) (length checked.now) }
 {
-    shorter(19 + wide(number_at(checked, 18)), checked.len())
+    (19 + wide(number_at(checked, 18))).min(checked.len())
 }
 
 // The numbers at the start of a buffer with the places of the ids, and the places of the types behind them.

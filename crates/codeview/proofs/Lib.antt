@@ -1,4 +1,3 @@
-pub mod Answers
-pub mod KindLaws
+pub mod Laws
 pub mod Tags
 pub mod Right

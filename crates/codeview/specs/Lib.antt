@@ -1,4 +1,3 @@
 pub mod IdRecord
-pub mod Kinds
 pub mod Read
 pub mod Record

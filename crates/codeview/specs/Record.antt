@@ -1,25 +1,22 @@
 -- Records (document 01, "Streams and records", over cvinfo.h's structures): what the bytes `b` of a record's fields say. `base` is where
 -- they stand in the stream: names and lists are handed on as places there.
-use Rattle.std.specs.Prelude.{ℕ, ◌+◌, ◌*◌, ◌/◌, ◌%◌, ◌^◌, Bool, true, false, List, length, leb, eqb}
+use Rattle.std.specs.Prelude.{ℕ, ◌+◌, ◌*◌, ◌/◌, ◌%◌, ◌^◌, Bool, true, false, List, length, leb, eqb, Option, Some, None, Result, Ok, Err}
 use Rattle.wire.specs.Field.{pick, field}
 use Rattle.wire.specs.Leaf.{leaf, width_of}
 use Rattle.wire.specs.Name.{name}
 use Rattle.wire.specs.declared.name.Name.{Name}
-use Rattle.wire.specs.declared.name.NameRead.{NameRead}
-use Rattle.wire.specs.declared.name.NameRead.TheVariants.{Ended, Unended}
 use Rattle.codeview.specs.declared.index.TypeIndex.{TypeIndex}
 use Rattle.codeview.specs.declared.index.IdIndex.{IdIndex}
 use Rattle.streams.specs.declared.refusal.Refusal.TheVariants.{UnlistedKind}
 use Rattle.codeview.specs.declared.record.Entries.{Entries}
 use Rattle.codeview.specs.declared.record.PointerMode.{PointerMode}
+use Rattle.codeview.specs.declared.record.UnlistedMode.{UnlistedMode}
 use Rattle.codeview.specs.declared.record.PointerMode.TheVariants as mode
 use Rattle.codeview.specs.declared.record.ClassKind.{ClassKind}
 use Rattle.codeview.specs.declared.record.ClassKind.TheVariants as class
-use Rattle.codeview.specs.declared.record.UniqueName.{UniqueName}
-use Rattle.codeview.specs.declared.record.UniqueName.TheVariants.{Given, Absent}
 use Rattle.codeview.specs.declared.record.TypeData.TheVariants as type
-use Rattle.codeview.specs.declared.record.TypeRead.{TypeRead}
-use Rattle.codeview.specs.declared.record.TypeRead.TheVariants.{Good, Refused}
+use Rattle.streams.specs.declared.refusal.Refusal.{Refusal}
+use Rattle.codeview.specs.declared.record.TypeData.{TypeData}
 
 -- A number as an index of one of the two counters.
 abbrev pub type_index : ℕ → TypeIndex
@@ -37,17 +34,17 @@ abbrev pub place : ℕ → ℕ → Name
 place start len = record { start = start; len = len }
 
 -- The name at a place of the fields, as a place of the stream.
-abbrev pub placed : ℕ → List ℕ → ℕ → NameRead
-placed base b at = name b at (λ n. Ended (place (base + at) n)) Unended
+abbrev pub placed : {A : Type 0} → ℕ → List ℕ → ℕ → (Name → A) → A → A
+placed base b at whole bad = name b at (λ n. whole (place (base + at) n)) bad
 
 -- The name at a place and, where property bit 9 is set, the unique name behind it ("Property bit 9 adds a unique name").
-unfoldable pub names : {A : Type 0} → ℕ → ℕ → List ℕ → ℕ → (Name → UniqueName → A) → A → A
+unfoldable pub names : {A : Type 0} → ℕ → ℕ → List ℕ → ℕ → (Name → Option Name → A) → A → A
 names base properties b at both bad =
     name b at
     (λ n.
     pick (bit 9 properties)
-    (name b (at + n + 1) (λ m. both (place (base + at) n) (Given (place (base + (at + n + 1)) m))) bad)
-    (both (place (base + at) n) Absent))
+    (name b (at + n + 1) (λ m. both (place (base + at) n) (Some (place (base + (at + n + 1)) m))) bad)
+    (both (place (base + at) n) None))
     bad
 
 -- A list: a count, and so many u32 behind it.
@@ -65,6 +62,10 @@ pointer_mode m known bad =
     (pick (eqb m 4) (known mode.RValueReference)
     bad))))
 
+-- The same, as the code answers it.
+abbrev pub mode_answer : ℕ → Result PointerMode UnlistedMode
+mode_answer m = pointer_mode m Ok (Err (record {}))
+
 -- The containing class of a pointer to a member, and how it is represented ("the six member bytes of pointer modes 2 and 3").
 unfoldable pub containing : {A : Type 0} → List ℕ → (ℕ → A) → A → A
 containing b class bad = field 4 b 8 (λ c. field 2 b 12 (λ representation. class c) bad) bad
@@ -79,16 +80,16 @@ member_class mode.RValueReference b class bad = class 0
 
 -- The fields of each kind, in the order of cvinfo.h's structures. A record is malformed where "a field, .. list entry or closing zero of a name" lies
 -- "past the record": `⇒` goes on with what was read, and stops there else. "Trailing bytes are ignored."
-module _ (bad : TypeRead) (base : ℕ) where
+module _ (bad : Result TypeData Refusal) (base : ℕ) where
   infixr 5 ◌⇒◌
-  abbrev ◌⇒◌ : {K : Type 0} → (K → TypeRead → TypeRead) → K → TypeRead
+  abbrev ◌⇒◌ : {K : Type 0} → (K → Result TypeData Refusal → Result TypeData Refusal) → K → Result TypeData Refusal
   r ⇒ k = r k bad
 
-  unfoldable pub modifier_of : List ℕ → TypeRead
+  unfoldable pub modifier_of : List ℕ → Result TypeData Refusal
   modifier_of b =
       field 4 b 0 ⇒ λ underlying.
       field 2 b 4 ⇒ λ attributes.
-      Good
+      Ok
       (type.Modifier
       (record {
         underlying = type_index underlying;
@@ -97,13 +98,13 @@ module _ (bad : TypeRead) (base : ℕ) where
         unaligned = bit 2 attributes;
       }))
 
-  unfoldable pub pointer_of : List ℕ → TypeRead
+  unfoldable pub pointer_of : List ℕ → Result TypeData Refusal
   pointer_of b =
       field 4 b 0 ⇒ λ underlying.
       field 4 b 4 ⇒ λ attributes.
       pointer_mode (attributes / 32 % 8) ⇒ λ mode.
       member_class mode b ⇒ λ class.
-      Good
+      Ok
       (type.Pointer
       (record {
         underlying = type_index underlying;
@@ -115,13 +116,13 @@ module _ (bad : TypeRead) (base : ℕ) where
       }))
 
   -- The byte behind the calling convention holds the function's attributes: its bit 1 marks a constructor.
-  unfoldable pub procedure_of : List ℕ → TypeRead
+  unfoldable pub procedure_of : List ℕ → Result TypeData Refusal
   procedure_of b =
       field 4 b 0 ⇒ λ result.
       field 2 b 4 ⇒ λ attributes.
       field 2 b 6 ⇒ λ parameters.
       field 4 b 8 ⇒ λ arguments.
-      Good
+      Ok
       (type.Procedure
       (record {
         result = type_index result;
@@ -130,7 +131,7 @@ module _ (bad : TypeRead) (base : ℕ) where
         arguments = type_index arguments;
       }))
 
-  unfoldable pub member_function_of : List ℕ → TypeRead
+  unfoldable pub member_function_of : List ℕ → Result TypeData Refusal
   member_function_of b =
       field 4 b 0 ⇒ λ result.
       field 4 b 4 ⇒ λ class.
@@ -139,7 +140,7 @@ module _ (bad : TypeRead) (base : ℕ) where
       field 2 b 14 ⇒ λ parameters.
       field 4 b 16 ⇒ λ arguments.
       field 4 b 20 ⇒ λ adjustment.
-      Good
+      Ok
       (type.MemberFunction
       (record {
         result = type_index result;
@@ -151,30 +152,30 @@ module _ (bad : TypeRead) (base : ℕ) where
         adjustment = adjustment;
       }))
 
-  unfoldable pub argument_list_of : List ℕ → TypeRead
-  argument_list_of b = entries base b ⇒ λ list. Good (type.ArgumentList list)
+  unfoldable pub argument_list_of : List ℕ → Result TypeData Refusal
+  argument_list_of b = entries base b ⇒ λ list. Ok (type.ArgumentList list)
 
-  unfoldable pub enumerate_of : List ℕ → TypeRead
+  unfoldable pub enumerate_of : List ℕ → Result TypeData Refusal
   enumerate_of b =
       field 2 b 0 ⇒ λ attributes.
       leaf (width_of true) b 2 ⇒ λ value width next.
       name b next ⇒ λ n.
-      Good (type.Enumerate (record { attributes = attributes; value = value; width = width; name = place (base + next) n }))
+      Ok (type.Enumerate (record { attributes = attributes; value = value; width = width; name = place (base + next) n }))
 
   -- "An array size above 4,294,967,295" is malformed.
-  unfoldable pub array_of : List ℕ → TypeRead
+  unfoldable pub array_of : List ℕ → Result TypeData Refusal
   array_of b =
       field 4 b 0 ⇒ λ element.
       field 4 b 4 ⇒ λ indexing.
       leaf (width_of false) b 8 ⇒ λ size width next.
       name b next ⇒ λ n.
       pick (leb size 4_294_967_295)
-      (Good
+      (Ok
       (type.Array (record { element = type_index element; indexing = type_index indexing; size = size; name = place (base + next) n })))
       bad
 
   -- "Property bit 9 adds a unique name, bit 7 marks a forward reference."
-  unfoldable pub class_of : ClassKind → List ℕ → TypeRead
+  unfoldable pub class_of : ClassKind → List ℕ → Result TypeData Refusal
   class_of kind b =
       field 2 b 0 ⇒ λ count.
       field 2 b 2 ⇒ λ properties.
@@ -183,7 +184,7 @@ module _ (bad : TypeRead) (base : ℕ) where
       field 4 b 12 ⇒ λ shape.
       leaf (width_of false) b 16 ⇒ λ size width next.
       names base properties b next ⇒ λ name unique.
-      Good
+      Ok
       (type.Class
       (record {
         kind = kind;
@@ -197,14 +198,14 @@ module _ (bad : TypeRead) (base : ℕ) where
         unique = unique;
       }))
 
-  unfoldable pub union_of : List ℕ → TypeRead
+  unfoldable pub union_of : List ℕ → Result TypeData Refusal
   union_of b =
       field 2 b 0 ⇒ λ count.
       field 2 b 2 ⇒ λ properties.
       field 4 b 4 ⇒ λ fields.
       leaf (width_of false) b 8 ⇒ λ size width next.
       names base properties b next ⇒ λ name unique.
-      Good
+      Ok
       (type.Union
       (record {
         count = count;
@@ -215,14 +216,14 @@ module _ (bad : TypeRead) (base : ℕ) where
         unique = unique;
       }))
 
-  unfoldable pub enumeration_of : List ℕ → TypeRead
+  unfoldable pub enumeration_of : List ℕ → Result TypeData Refusal
   enumeration_of b =
       field 2 b 0 ⇒ λ count.
       field 2 b 2 ⇒ λ properties.
       field 4 b 4 ⇒ λ underlying.
       field 4 b 8 ⇒ λ fields.
       names base properties b 12 ⇒ λ name unique.
-      Good
+      Ok
       (type.Enumeration
       (record {
         count = count;
@@ -234,7 +235,7 @@ module _ (bad : TypeRead) (base : ℕ) where
       }))
 
   -- A record of the type stream, by its kind. "Types 0x1203, 0x1205, 0x1206 .. their fields are not read"; 7 for a kind that is not listed.
-  unfoldable pub type_of : ℕ → List ℕ → TypeRead
+  unfoldable pub type_of : ℕ → List ℕ → Result TypeData Refusal
   type_of kind b =
       pick (eqb kind 0x1001) (modifier_of b)
       (pick (eqb kind 0x1002) (pointer_of b)
@@ -248,7 +249,7 @@ module _ (bad : TypeRead) (base : ℕ) where
       (pick (eqb kind 0x1519) (class_of class.Interface b)
       (pick (eqb kind 0x1506) (union_of b)
       (pick (eqb kind 0x1507) (enumeration_of b)
-      (pick (eqb kind 0x1203) (Good (type.Unhandled kind))
-      (pick (eqb kind 0x1205) (Good (type.Unhandled kind))
-      (pick (eqb kind 0x1206) (Good (type.Unhandled kind))
-      (Refused (UnlistedKind kind))))))))))))))))
+      (pick (eqb kind 0x1203) (Ok (type.Unhandled kind))
+      (pick (eqb kind 0x1205) (Ok (type.Unhandled kind))
+      (pick (eqb kind 0x1206) (Ok (type.Unhandled kind))
+      (Err (UnlistedKind kind))))))))))))))))

@@ -1,100 +1,131 @@
-// Parts that records share: numbers, names, lists and bits. Only this crate's decoders call these.
-ghost use Rattle.std.specs.Prelude.{◌≡◌, ◌+◌, ◌/◌, ◌%◌, ◌≤◌, ◌<◌, ◌^◌, length, eqb};
+// The fields of a record, and the parts that records share: numbers, names, lists and bits.
+ghost use Rattle.std.specs.Prelude.{◌≡◌, ◌+◌, ◌≤◌, ◌<◌, ◌^◌, if◌then◌else◌, IfOk, length, leb};
 ghost use Rattle.wire.specs.Field.{number};
-ghost use Rattle.codeview.specs.Record.{placed, names, entries};
-ghost use Rattle.codeview.specs.declared.fields.Names.TheVariants.{Both, Unended};
-ghost use Rattle.codeview.specs.declared.fields.EntriesRead.TheVariants.{Whole, Cut};
+ghost use Rattle.wire.specs.Leaf.{width_of, leaf};
+ghost use Rattle.streams.specs.Stream.{part};
+ghost use Rattle.streams.specs.declared.refusal.Refusal.TheVariants.{Malformed};
+ghost use Rattle.codeview.specs.Record.{bit, placed, names, entries};
+ghost use Rattle.codeview.specs.Read.{absent_refusal};
 
-use crate::record::{Entries, UniqueName};
-use wire::field::{Field16, Field32};
-use wire::name::{Name, NameRead};
+use crate::record::Entries;
+use streams::refusal::Refusal;
+use streams::stream::{Absent, RecordAt};
+use wire::field::Little;
+use wire::leaf::{Leaf, leaf_at};
+use wire::name::{Name, name_at};
 
+// Whether a bit of a number is set, counted from 0.
+#[tactic(auto, unfolding(crate::specs::Record::bit))]
+pub fn has_bit(bits: u32, k: u32) -> bool
+    requires { k < 32 }
+    ensures { result ≡ bit k bits }
+{
+    bits >> k & 1 == 1
+}
+
+// Why no record of an index is read.
+pub fn refusal_of(absent: Absent, index: u32) -> Refusal
+    ensures { result ≡ absent_refusal absent index }
+{
+    match absent {
+        Absent::Missing => Refusal::Missing(index),
+        Absent::CrossModule => Refusal::CrossModule(index),
+    }
+}
+
+// The bytes of a record's fields, the place where they stand in the stream, and the record's index. Names and lists are answered as places of the
+// stream; what is cut is refused by the index.
 #[derive(Clone, Copy)]
-pub enum Names {
-    Both(Name, UniqueName),
-    Unended,
+pub struct Fields<'a> {
+    pub bytes: &'a [u8],
+    pub base: usize,
+    pub index: u32,
+    pub ghost inside: { base + length bytes.now < 2 ^ 63 },
 }
 
-#[derive(Clone, Copy)]
-pub enum EntriesRead {
-    Whole(Entries),
-    Cut,
-}
-
-// Whether the bit of a weight is set.
-pub fn has_bit(bits: u32, weight: u32) -> bool
-    requires { 0 < weight }
-    ensures { result ≡ eqb (bits / weight % 2) 1 }
-{
-    bits / weight % 2 == 1
-}
-
-// A number at a place that the caller has seen to lie inside: the fixed part of a record is tested once, then read.
-pub fn u16_in(b: &[u8], at: usize) -> u16
-    requires { at + 2 ≤ length b.now }
-    ensures { result ≡ number 2 b.now at }
-{
-    match wire::field::u16_at(b, at) {
-        Field16::Value(n) => n,
-        Field16::Outside => 0,
+impl<'a> Fields<'a> {
+    // The fields of a record that was found in a stream.
+    #[tactic(auto, unfolding(streams::specs::Stream::part))]
+    pub fn of(s: &'a [u8], record: RecordAt, index: u32) -> Fields<'a>
+        requires { (record.start ≤ record.end) × (record.end ≤ length s.now) }
+        ensures bytes { result.bytes.now ≡ part s.now record.start record.end }
+        ensures base { result.base ≡ record.start }
+        ensures index { result.index ≡ index }
+    {
+        Fields {
+            bytes: &s[record.start..record.end],
+            base: record.start,
+            index,
+        }
     }
-}
 
-pub fn u32_in(b: &[u8], at: usize) -> u32
-    requires { at + 4 ≤ length b.now }
-    ensures { result ≡ number 4 b.now at }
-{
-    match wire::field::u32_at(b, at) {
-        Field32::Value(n) => n,
-        Field32::Outside => 0,
+    pub fn malformed(&self) -> Refusal
+        ensures { result ≡ Malformed self.now.index }
+    {
+        Refusal::Malformed(self.index)
     }
-}
 
-// The name at a place of the fields, as a place of the stream.
-pub fn name_in(b: &[u8], base: usize, at: usize) -> NameRead
-    requires { base + length b.now < 2 ^ 63 }
-    ensures { result ≡ placed base b.now at }
-{
-    let NameRead::Ended(name) = wire::name::name_at(b, at) else {
-        return NameRead::Unended;
-    };
-    NameRead::Ended(Name {
-        start: base + at,
-        len: name.len,
-    })
-}
-
-// The name at a place of the fields and the unique name behind it, as places of the stream.
-pub fn names_at(b: &[u8], base: usize, at: usize, properties: u16) -> Names
-    requires { base + length b.now < 2 ^ 63 }
-    ensures { result ≡ names base properties b.now at Both Unended }
-{
-    let NameRead::Ended(name) = name_in(b, base, at) else {
-        return Names::Unended;
-    };
-    if has_bit(properties as u32, 0x200) {
-        let NameRead::Ended(unique) = name_in(b, base, at + name.len + 1) else {
-            return Names::Unended;
-        };
-        return Names::Both(name, UniqueName::Given(unique));
+    // The fixed part of a record is tested once, then read.
+    pub fn fixed(&self, size: usize) -> Result<(), Refusal>
+        ensures { result ≡ (if leb size (length self.now.bytes.now) then Ok tt else Err (Malformed self.now.index)) }
+    {
+        if self.bytes.len() < size {
+            return Err(self.malformed());
+        }
+        Ok(())
     }
-    Names::Both(name, UniqueName::Absent)
-}
 
-// The list of a record that is a count and so many u32.
-pub fn entries_of(b: &[u8], base: usize) -> EntriesRead
-    requires { base + length b.now < 2 ^ 63 }
-    ensures { result ≡ entries base b.now Whole Cut }
-{
-    let Field32::Value(count) = wire::field::u32_at(b, 0) else {
-        return EntriesRead::Cut;
-    };
-    let wanted = count as usize;
-    if b.len() < 4 + 4 * wanted {
-        return EntriesRead::Cut;
+    // A number of the fixed part.
+    pub fn number<T: Little>(&self, at: usize) -> T
+        requires { at + T.WIDTH ≤ length self.now.bytes.now }
+        ensures { result ≡ T.of (number T.WIDTH self.now.bytes.now at) }
+    {
+        T::read(self.bytes, at)
     }
-    EntriesRead::Whole(Entries {
-        start: base + 4,
-        count,
-    })
+
+    #[tactic(auto, using(crate::proofs::Laws::by_leaf))]
+    pub fn leaf_at(&self, at: usize, signed: bool) -> Result<Leaf, Refusal>
+        ensures { result ≡ leaf (width_of signed) self.now.bytes.now at (λ v w n. Ok (record { value = v; width = w; next = n })) (Err (Malformed self.now.index)) }
+    {
+        leaf_at(self.bytes, at, signed).ok_or(self.malformed())
+    }
+
+    #[tactic(auto, using(crate::proofs::Laws::by_name, crate::proofs::Laws::name_inside))]
+    pub fn name_at(&self, at: usize) -> Result<Name, Refusal>
+        ensures read { result ≡ placed self.now.base self.now.bytes.now at Ok (Err (Malformed self.now.index)) }
+        ensures inside { IfOk result (λ n. at + n.len < length self.now.bytes.now) }
+    {
+        let name = name_at(self.bytes, at).ok_or(self.malformed())?;
+        Ok(Name {
+            start: self.base + at,
+            len: name.len,
+        })
+    }
+
+    // A name, and the unique name behind it where the properties say so.
+    #[tactic(auto, using(crate::proofs::Laws::by_name), unfolding(crate::specs::Record::names))]
+    pub fn names_at(&self, at: usize, properties: u16) -> Result<(Name, Option<Name>), Refusal>
+        ensures { result ≡ names self.now.base properties self.now.bytes.now at (λ n u. Ok (n, u)) (Err (Malformed self.now.index)) }
+    {
+        let name = self.name_at(at)?;
+        if !has_bit(u32::from(properties), 9) {
+            return Ok((name, None));
+        }
+        let unique = self.name_at(at + name.len + 1)?;
+        Ok((name, Some(unique)))
+    }
+
+    // The list of a record that is a count and so many u32.
+    #[tactic(auto, unfolding(crate::specs::Record::entries, wire::specs::Field::field))]
+    pub fn entries(&self) -> Result<Entries, Refusal>
+        ensures { result ≡ entries self.now.base self.now.bytes.now Ok (Err (Malformed self.now.index)) }
+    {
+        self.fixed(4)?;
+        let count: u32 = self.number(0);
+        self.fixed(4 + 4 * (count as usize))?;
+        Ok(Entries {
+            start: self.base + 4,
+            count,
+        })
+    }
 }

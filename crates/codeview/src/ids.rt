@@ -1,125 +1,77 @@
 // Id records: the fields of each kind, and what an id index stands for.
-ghost use Rattle.std.specs.Prelude.{◌≡◌, ◌+◌, ◌<◌, ◌^◌, length};
-ghost use Rattle.codeview.specs.IdRecord.{function_parts, function_id_of, member_function_id_of, string_list_of, string_of, id_data_of};
+#![tactic(auto, using(crate::proofs::Laws::reads), unfolding(wire::specs::Field::field, crate::specs::IdRecord::function_parts, crate::specs::IdRecord::function_id_of, crate::specs::IdRecord::member_function_id_of, crate::specs::IdRecord::string_list_of, crate::specs::IdRecord::string_of, crate::specs::Record::entries))]
+
+ghost use Rattle.std.specs.Prelude.{◌≡◌};
+ghost use Rattle.codeview.specs.IdRecord.{function_id_of, member_function_id_of, string_list_of, string_of, id_data_of};
 ghost use Rattle.codeview.specs.Read.{read_id_in};
 ghost use Rattle.streams.specs.declared.refusal.Refusal.TheVariants.{Malformed};
-ghost use Rattle.codeview.specs.declared.record.IdRead.TheVariants.{Refused};
-ghost use Rattle.codeview.specs.declared.ids.PartsRead.TheVariants.{Whole, Cut};
 
-use crate::fields::{EntriesRead, name_in, u32_in};
+use crate::fields::{Fields, refusal_of};
 use crate::index::{IdIndex, TypeIndex};
-use crate::record::{FunctionId, IdData, IdRead, MemberFunctionId, StringId};
+use crate::kinds::*;
+use crate::record::{FunctionId, IdData, MemberFunctionId, StringId};
 use streams::bounds::look_up_in;
 use streams::refusal::{Refusal, StreamKind};
-use streams::stream::Found;
-use wire::name::{Name, NameRead};
 
-// Whose function it is, the function's type, and its name.
-#[derive(Clone, Copy)]
-enum PartsRead {
-    Whole(u32, u32, Name),
-    Cut,
-}
-
-fn malformed(index: u32) -> IdRead
-    ensures { result ≡ Refused (Malformed index) }
+fn function_id(f: &Fields<'_>) -> Result<IdData, Refusal>
+    ensures { result ≡ function_id_of (Err (Malformed f.now.index)) f.now.base f.now.bytes.now }
 {
-    IdRead::Refused(Refusal::Malformed(index))
-}
-
-// What the ids of functions and of member functions say in the same places.
-fn function_parts(b: &[u8], base: usize) -> PartsRead
-    requires { base + length b.now < 2 ^ 63 }
-    ensures { result ≡ function_parts base b.now Whole Cut }
-{
-    if b.len() < 8 {
-        return PartsRead::Cut;
-    }
-    let NameRead::Ended(name) = name_in(b, base, 8) else {
-        return PartsRead::Cut;
-    };
-    PartsRead::Whole(u32_in(b, 0), u32_in(b, 4), name)
-}
-
-fn function_id(b: &[u8], base: usize, index: u32) -> IdRead
-    requires { base + length b.now < 2 ^ 63 }
-    ensures { result ≡ function_id_of (Refused (Malformed index)) base b.now }
-{
-    let PartsRead::Whole(owner, function, name) = function_parts(b, base) else {
-        return malformed(index);
-    };
-    IdRead::Good(IdData::Function(FunctionId {
-        scope: IdIndex(owner),
-        function: TypeIndex(function),
-        name,
+    f.fixed(8)?;
+    Ok(IdData::Function(FunctionId {
+        scope: IdIndex(f.number(0)),
+        function: TypeIndex(f.number(4)),
+        name: f.name_at(8)?,
     }))
 }
 
-fn member_function_id(b: &[u8], base: usize, index: u32) -> IdRead
-    requires { base + length b.now < 2 ^ 63 }
-    ensures { result ≡ member_function_id_of (Refused (Malformed index)) base b.now }
+fn member_function_id(f: &Fields<'_>) -> Result<IdData, Refusal>
+    ensures { result ≡ member_function_id_of (Err (Malformed f.now.index)) f.now.base f.now.bytes.now }
 {
-    let PartsRead::Whole(owner, function, name) = function_parts(b, base) else {
-        return malformed(index);
-    };
-    IdRead::Good(IdData::MemberFunction(MemberFunctionId {
-        parent: TypeIndex(owner),
-        function: TypeIndex(function),
-        name,
+    f.fixed(8)?;
+    Ok(IdData::MemberFunction(MemberFunctionId {
+        parent: TypeIndex(f.number(0)),
+        function: TypeIndex(f.number(4)),
+        name: f.name_at(8)?,
     }))
 }
 
-fn string_list(b: &[u8], base: usize, index: u32) -> IdRead
-    requires { base + length b.now < 2 ^ 63 }
-    ensures { result ≡ string_list_of (Refused (Malformed index)) base b.now }
+fn string_list(f: &Fields<'_>) -> Result<IdData, Refusal>
+    ensures { result ≡ string_list_of (Err (Malformed f.now.index)) f.now.base f.now.bytes.now }
 {
-    let EntriesRead::Whole(list) = crate::fields::entries_of(b, base) else {
-        return malformed(index);
-    };
-    IdRead::Good(IdData::StringList(list))
+    Ok(IdData::StringList(f.entries()?))
 }
 
-fn string_id(b: &[u8], base: usize, index: u32) -> IdRead
-    requires { base + length b.now < 2 ^ 63 }
-    ensures { result ≡ string_of (Refused (Malformed index)) base b.now }
+fn string_id(f: &Fields<'_>) -> Result<IdData, Refusal>
+    ensures { result ≡ string_of (Err (Malformed f.now.index)) f.now.base f.now.bytes.now }
 {
-    if b.len() < 4 {
-        return malformed(index);
-    }
-    let NameRead::Ended(name) = name_in(b, base, 4) else {
-        return malformed(index);
-    };
-    IdRead::Good(IdData::String(StringId {
-        list: IdIndex(u32_in(b, 0)),
-        name,
+    f.fixed(4)?;
+    Ok(IdData::String(StringId {
+        list: IdIndex(f.number(0)),
+        name: f.name_at(4)?,
     }))
 }
 
-// A record of the id stream, by its kind: its fields stand at `base`.
-fn decode_id(b: &[u8], base: usize, kind: u16, index: u32) -> IdRead
-    requires { base + length b.now < 2 ^ 63 }
-    ensures { result ≡ id_data_of (Refused (Malformed index)) base kind b.now }
+// A record of the id stream, by its kind.
+#[tactic(auto, unfolding(crate::specs::IdRecord::id_data_of))]
+fn decode_id(f: &Fields<'_>, kind: u16) -> Result<IdData, Refusal>
+    ensures { result ≡ id_data_of (Err (Malformed f.now.index)) f.now.base kind f.now.bytes.now }
 {
     match kind {
-        0x1601 => function_id(b, base, index),
-        0x1602 => member_function_id(b, base, index),
-        0x1604 => string_list(b, base, index),
-        0x1605 => string_id(b, base, index),
-        0x1603 => IdRead::Good(IdData::Unhandled(kind)),
-        0x1606 => IdRead::Good(IdData::Unhandled(kind)),
-        0x1607 => IdRead::Good(IdData::Unhandled(kind)),
-        _ => IdRead::Refused(Refusal::UnlistedKind(kind as u32)),
+        LF_FUNC_ID => function_id(f),
+        LF_MFUNC_ID => member_function_id(f),
+        LF_SUBSTR_LIST => string_list(f),
+        LF_STRING_ID => string_id(f),
+        LF_BUILDINFO | LF_UDT_SRC_LINE | LF_UDT_MOD_SRC_LINE => Ok(IdData::Unhandled(kind)),
+        _ => Err(Refusal::UnlistedKind(u32::from(kind))),
     }
 }
 
 // What an id index stands for in a checked stream, found from its places.
-pub fn id_at(s: &[u8], bounds: &[u32], places: &[u32], index: IdIndex) -> IdRead
+#[tactic(auto, using(crate::proofs::Laws::by_look, crate::proofs::Laws::look_inside), unfolding(crate::specs::Read::id_from))]
+pub fn id_at(s: &[u8], bounds: &[u32], places: &[u32], index: IdIndex) -> Result<IdData, Refusal>
     ensures { result ≡ read_id_in s.now bounds.now places.now index.0 }
 {
     let i = index.0;
-    match look_up_in(s, bounds, places, StreamKind::Ids, i) {
-        Found::Record { kind, start, end } => decode_id(&s[start..end], start, kind, i),
-        Found::Missing => IdRead::Refused(Refusal::Missing(i)),
-        Found::CrossModule => IdRead::Refused(Refusal::CrossModule(i)),
-    }
+    let record = look_up_in(s, bounds, places, StreamKind::Ids, i).map_err(|a| refusal_of(a, i))?;
+    decode_id(&Fields::of(s, record, i), record.kind)
 }

@@ -1,16 +1,19 @@
 // The records of the two streams, decoded. Names and lists stand as places of the stream.
+ghost use Rattle.std.specs.Prelude.{◌≡◌};
+ghost use Rattle.codeview.specs.Record.{mode_answer};
+
 use crate::index::{IdIndex, TypeIndex};
 use streams::refusal::Refusal;
 use wire::name::Name;
 
 // A run of u32: where it starts and how many there are.
-#[derive(Clone, Copy)]
+#[derive(Clone, Copy, Debug, PartialEq, Eq)]
 pub struct Entries {
     pub count: u32,
     pub start: usize,
 }
 
-#[derive(Clone, Copy)]
+#[derive(Clone, Copy, Debug, PartialEq, Eq)]
 pub enum PointerMode {
     Pointer,
     LValueReference,
@@ -19,27 +22,43 @@ pub enum PointerMode {
     RValueReference,
 }
 
-#[derive(Clone, Copy)]
+// A number that no mode of a pointer has.
+#[derive(Clone, Copy, Debug, PartialEq, Eq)]
+pub struct UnlistedMode;
+
+impl TryFrom<u32> for PointerMode {
+    type Error = UnlistedMode;
+
+    ghost try_from_gives = { λ mode result. result ≡ mode_answer mode };
+
+    #[tactic(auto, unfolding(crate::specs::Record::pointer_mode))]
+    fn try_from(mode: u32) -> Result<PointerMode, UnlistedMode> {
+        match mode {
+            0 => Ok(PointerMode::Pointer),
+            1 => Ok(PointerMode::LValueReference),
+            2 => Ok(PointerMode::Member),
+            3 => Ok(PointerMode::MemberFunction),
+            4 => Ok(PointerMode::RValueReference),
+            _ => Err(UnlistedMode),
+        }
+    }
+}
+
+#[derive(Clone, Copy, Debug, PartialEq, Eq)]
 pub enum ClassKind {
     Class,
     Struct,
     Interface,
 }
 
-#[derive(Clone, Copy)]
-pub enum UniqueName {
-    Given(Name),
-    Absent,
-}
-
 // A primitive: the code of its kind, and how many times it is pointed to (0 to 7).
-#[derive(Clone, Copy)]
+#[derive(Clone, Copy, Debug, PartialEq, Eq)]
 pub struct PrimitiveType {
     pub indirection: u32,
     pub code: u8,
 }
 
-#[derive(Clone, Copy)]
+#[derive(Clone, Copy, Debug, PartialEq, Eq)]
 pub struct ModifierType {
     pub underlying: TypeIndex,
     pub constant: bool,
@@ -48,7 +67,7 @@ pub struct ModifierType {
 }
 
 // `class` is the containing class of a pointer to a member, and index 0 for any other.
-#[derive(Clone, Copy)]
+#[derive(Clone, Copy, Debug, PartialEq, Eq)]
 pub struct PointerType {
     pub underlying: TypeIndex,
     pub constant: bool,
@@ -58,7 +77,7 @@ pub struct PointerType {
     pub class: TypeIndex,
 }
 
-#[derive(Clone, Copy)]
+#[derive(Clone, Copy, Debug, PartialEq, Eq)]
 pub struct ProcedureType {
     pub result: TypeIndex,
     pub constructor: bool,
@@ -66,7 +85,7 @@ pub struct ProcedureType {
     pub arguments: TypeIndex,
 }
 
-#[derive(Clone, Copy)]
+#[derive(Clone, Copy, Debug, PartialEq, Eq)]
 pub struct MemberFunctionType {
     pub result: TypeIndex,
     pub constructor: bool,
@@ -78,7 +97,7 @@ pub struct MemberFunctionType {
 }
 
 // The value stands as its bits, in `width` bytes.
-#[derive(Clone, Copy)]
+#[derive(Clone, Copy, Debug, PartialEq, Eq)]
 pub struct EnumerateType {
     pub attributes: u16,
     pub value: u64,
@@ -86,7 +105,7 @@ pub struct EnumerateType {
     pub name: Name,
 }
 
-#[derive(Clone, Copy)]
+#[derive(Clone, Copy, Debug, PartialEq, Eq)]
 pub struct ArrayType {
     pub element: TypeIndex,
     pub indexing: TypeIndex,
@@ -94,7 +113,7 @@ pub struct ArrayType {
     pub name: Name,
 }
 
-#[derive(Clone, Copy)]
+#[derive(Clone, Copy, Debug, PartialEq, Eq)]
 pub struct ClassType {
     pub kind: ClassKind,
     pub forward: bool,
@@ -104,30 +123,30 @@ pub struct ClassType {
     pub shape: TypeIndex,
     pub size: u64,
     pub name: Name,
-    pub unique: UniqueName,
+    pub unique: Option<Name>,
 }
 
-#[derive(Clone, Copy)]
+#[derive(Clone, Copy, Debug, PartialEq, Eq)]
 pub struct UnionType {
     pub forward: bool,
     pub count: u16,
     pub fields: TypeIndex,
     pub size: u64,
     pub name: Name,
-    pub unique: UniqueName,
+    pub unique: Option<Name>,
 }
 
-#[derive(Clone, Copy)]
+#[derive(Clone, Copy, Debug, PartialEq, Eq)]
 pub struct EnumerationType {
     pub forward: bool,
     pub count: u16,
     pub underlying: TypeIndex,
     pub fields: TypeIndex,
     pub name: Name,
-    pub unique: UniqueName,
+    pub unique: Option<Name>,
 }
 
-#[derive(Clone, Copy)]
+#[derive(Clone, Copy, Debug, PartialEq, Eq)]
 pub enum TypeData {
     Primitive(PrimitiveType),
     Modifier(ModifierType),
@@ -143,21 +162,14 @@ pub enum TypeData {
     Unhandled(u16),
 }
 
-// What reading a type index gives.
-#[derive(Clone, Copy)]
-pub enum TypeRead {
-    Good(TypeData),
-    Refused(Refusal),
-}
-
-#[derive(Clone, Copy)]
+#[derive(Clone, Copy, Debug, PartialEq, Eq)]
 pub struct FunctionId {
     pub scope: IdIndex,
     pub function: TypeIndex,
     pub name: Name,
 }
 
-#[derive(Clone, Copy)]
+#[derive(Clone, Copy, Debug, PartialEq, Eq)]
 pub struct MemberFunctionId {
     pub parent: TypeIndex,
     pub function: TypeIndex,
@@ -165,24 +177,17 @@ pub struct MemberFunctionId {
 }
 
 // `list` is the id of a list of strings that stand before this one.
-#[derive(Clone, Copy)]
+#[derive(Clone, Copy, Debug, PartialEq, Eq)]
 pub struct StringId {
     pub list: IdIndex,
     pub name: Name,
 }
 
-#[derive(Clone, Copy)]
+#[derive(Clone, Copy, Debug, PartialEq, Eq)]
 pub enum IdData {
     Function(FunctionId),
     MemberFunction(MemberFunctionId),
     StringList(Entries),
     String(StringId),
     Unhandled(u16),
-}
-
-// What reading an id index gives.
-#[derive(Clone, Copy)]
-pub enum IdRead {
-    Good(IdData),
-    Refused(Refusal),
 }

@@ -1,344 +1,233 @@
 // Type records: the fields of each kind, and what a type index stands for.
-ghost use Rattle.std.specs.Prelude.{◌≡◌, ◌+◌, ◌/◌, ◌%◌, ◌≤◌, ◌<◌, ◌^◌, true, false, length, leb};
-ghost use Rattle.wire.specs.Field.{pick, number};
-ghost use Rattle.primitives.specs.Primitive.{primitives, first_of};
-ghost use Rattle.codeview.specs.Record.{pointer_mode, modifier_of, pointer_of, procedure_of, member_function_of, argument_list_of, enumerate_of, array_of, class_of, union_of, enumeration_of, type_of};
-ghost use Rattle.codeview.specs.Read.{read_type_in};
-ghost use Rattle.streams.specs.declared.refusal.Refusal.TheVariants.{Malformed, Missing};
-ghost use Rattle.codeview.specs.declared.record.PointerMode.TheVariants.{RValueReference};
-ghost use Rattle.codeview.specs.declared.record.TypeData.TheVariants as type;
-ghost use Rattle.codeview.specs.declared.record.TypeRead.TheVariants.{Good, Refused};
-ghost use Rattle.codeview.specs.Kinds.{NamedKind, pointer_to};
+#![tactic(auto, using(crate::proofs::Laws::reads, std::proofs::lemmas::Grind::common_steps), unfolding(wire::specs::Field::field, crate::specs::Record::modifier_of, crate::specs::Record::member_class, crate::specs::Record::containing, crate::specs::Record::pointer_of, crate::specs::Record::procedure_of, crate::specs::Record::member_function_of, crate::specs::Record::argument_list_of, crate::specs::Record::entries, crate::specs::Record::enumerate_of, crate::specs::Record::array_of, crate::specs::Record::class_of, crate::specs::Record::union_of, crate::specs::Record::enumeration_of, crate::specs::Record::bit))]
 
-use crate::fields::{EntriesRead, Names, has_bit, name_in, u16_in, u32_in};
+ghost use Rattle.std.specs.Prelude.{◌≡◌};
+ghost use Rattle.codeview.specs.Record.{member_class, modifier_of, pointer_of, procedure_of, member_function_of, argument_list_of, enumerate_of, array_of, class_of, union_of, enumeration_of, type_of};
+ghost use Rattle.codeview.specs.Read.{primitive_of, read_type_in};
+ghost use Rattle.streams.specs.declared.refusal.Refusal.TheVariants.{Malformed};
+
+use crate::fields::{Fields, has_bit, refusal_of};
 use crate::index::TypeIndex;
+use crate::kinds::*;
 use crate::record::{
     ArrayType, ClassKind, ClassType, EnumerateType, EnumerationType, MemberFunctionType,
-    ModifierType, PointerMode, PointerType, PrimitiveType, ProcedureType, TypeData, TypeRead,
-    UnionType,
+    ModifierType, PointerMode, PointerType, PrimitiveType, ProcedureType, TypeData, UnionType,
 };
 use streams::bounds::look_up_in;
 use streams::refusal::{Refusal, StreamKind};
-use streams::stream::Found;
 use wire::leaf::Leaf;
-use wire::name::NameRead;
 
-fn malformed(index: u32) -> TypeRead
-    ensures { result ≡ Refused (Malformed index) }
+fn modifier(f: &Fields<'_>) -> Result<TypeData, Refusal>
+    ensures { result ≡ modifier_of (Err (Malformed f.now.index)) f.now.base f.now.bytes.now }
 {
-    TypeRead::Refused(Refusal::Malformed(index))
+    f.fixed(6)?;
+    let attributes = u32::from(f.number::<u16>(4));
+    Ok(TypeData::Modifier(ModifierType {
+        underlying: TypeIndex(f.number(0)),
+        constant: has_bit(attributes, 0),
+        volatile: has_bit(attributes, 1),
+        unaligned: has_bit(attributes, 2),
+    }))
 }
 
-fn pointer_mode(mode: u32) -> PointerMode
-    ensures { result ≡ pointer_mode mode (λ m. m) RValueReference }
+// The containing class of a pointer to a member, in whose record six bytes more are fixed; index 0 for any other.
+fn member_class(f: &Fields<'_>, mode: PointerMode) -> Result<u32, Refusal>
+    ensures { result ≡ member_class mode f.now.bytes.now Ok (Err (Malformed f.now.index)) }
 {
     match mode {
-        0 => return PointerMode::Pointer,
-        1 => return PointerMode::LValueReference,
-        2 => return PointerMode::Member,
-        3 => return PointerMode::MemberFunction,
-        _ => return PointerMode::RValueReference,
-    }
-}
-
-fn modifier(b: &[u8], base: usize, index: u32) -> TypeRead
-    ensures { result ≡ modifier_of (Refused (Malformed index)) base b.now }
-{
-    if b.len() < 6 {
-        return malformed(index);
-    }
-    let attributes = u16_in(b, 4) as u32;
-    TypeRead::Good(TypeData::Modifier(ModifierType {
-        underlying: TypeIndex(u32_in(b, 0)),
-        constant: has_bit(attributes, 1),
-        volatile: has_bit(attributes, 2),
-        unaligned: has_bit(attributes, 4),
-    }))
-}
-
-// A pointer of a mode that is listed, and its class.
-fn pointer_to(b: &[u8], attributes: u32, mode: u32, class: u32) -> TypeRead
-    requires { 4 ≤ length b.now }
-    ensures { result ≡ pointer_to (number 4 b.now 0) attributes mode class }
-{
-    TypeRead::Good(TypeData::Pointer(PointerType {
-        underlying: TypeIndex(u32_in(b, 0)),
-        constant: has_bit(attributes, 0x400),
-        volatile: has_bit(attributes, 0x200),
-        mode: pointer_mode(mode),
-        size: attributes / 8192 % 64,
-        class: TypeIndex(class),
-    }))
-}
-
-fn pointer(b: &[u8], base: usize, index: u32) -> TypeRead
-    ensures { result ≡ pointer_of (Refused (Malformed index)) base b.now }
-{
-    if b.len() < 8 {
-        return malformed(index);
-    }
-    let attributes = u32_in(b, 4);
-    let mode = attributes / 32 % 8;
-    if 4 < mode {
-        return malformed(index);
-    }
-    if mode / 2 == 1 {
-        if b.len() < 14 {
-            return malformed(index);
+        PointerMode::Member | PointerMode::MemberFunction => {
+            f.fixed(14)?;
+            Ok(f.number(8))
         }
-        return pointer_to(b, attributes, mode, u32_in(b, 8));
+        _ => Ok(0),
     }
-    pointer_to(b, attributes, mode, 0)
 }
 
-fn procedure(b: &[u8], base: usize, index: u32) -> TypeRead
-    ensures { result ≡ procedure_of (Refused (Malformed index)) base b.now }
+fn pointer(f: &Fields<'_>) -> Result<TypeData, Refusal>
+    ensures { result ≡ pointer_of (Err (Malformed f.now.index)) f.now.base f.now.bytes.now }
 {
-    if b.len() < 12 {
-        return malformed(index);
-    }
-    TypeRead::Good(TypeData::Procedure(ProcedureType {
-        result: TypeIndex(u32_in(b, 0)),
-        constructor: has_bit(u16_in(b, 4) as u32, 0x200),
-        parameters: u16_in(b, 6),
-        arguments: TypeIndex(u32_in(b, 8)),
+    f.fixed(8)?;
+    let attributes: u32 = f.number(4);
+    let mode = PointerMode::try_from(attributes >> 5 & 7).or(Err(f.malformed()))?;
+    Ok(TypeData::Pointer(PointerType {
+        underlying: TypeIndex(f.number(0)),
+        constant: has_bit(attributes, 10),
+        volatile: has_bit(attributes, 9),
+        mode,
+        size: attributes >> 13 & 63,
+        class: TypeIndex(member_class(f, mode)?),
     }))
 }
 
-fn member_function(b: &[u8], base: usize, index: u32) -> TypeRead
-    ensures { result ≡ member_function_of (Refused (Malformed index)) base b.now }
+fn procedure(f: &Fields<'_>) -> Result<TypeData, Refusal>
+    ensures { result ≡ procedure_of (Err (Malformed f.now.index)) f.now.base f.now.bytes.now }
 {
-    if b.len() < 24 {
-        return malformed(index);
-    }
-    TypeRead::Good(TypeData::MemberFunction(MemberFunctionType {
-        result: TypeIndex(u32_in(b, 0)),
-        class: TypeIndex(u32_in(b, 4)),
-        this: TypeIndex(u32_in(b, 8)),
-        constructor: has_bit(u16_in(b, 12) as u32, 0x200),
-        parameters: u16_in(b, 14),
-        arguments: TypeIndex(u32_in(b, 16)),
-        adjustment: u32_in(b, 20),
+    f.fixed(12)?;
+    Ok(TypeData::Procedure(ProcedureType {
+        result: TypeIndex(f.number(0)),
+        constructor: has_bit(u32::from(f.number::<u16>(4)), 9),
+        parameters: f.number(6),
+        arguments: TypeIndex(f.number(8)),
     }))
 }
 
-fn argument_list(b: &[u8], base: usize, index: u32) -> TypeRead
-    requires { base + length b.now < 2 ^ 63 }
-    ensures { result ≡ argument_list_of (Refused (Malformed index)) base b.now }
+fn member_function(f: &Fields<'_>) -> Result<TypeData, Refusal>
+    ensures { result ≡ member_function_of (Err (Malformed f.now.index)) f.now.base f.now.bytes.now }
 {
-    let EntriesRead::Whole(list) = crate::fields::entries_of(b, base) else {
-        return malformed(index);
-    };
-    TypeRead::Good(TypeData::ArgumentList(list))
+    f.fixed(24)?;
+    Ok(TypeData::MemberFunction(MemberFunctionType {
+        result: TypeIndex(f.number(0)),
+        class: TypeIndex(f.number(4)),
+        this: TypeIndex(f.number(8)),
+        constructor: has_bit(u32::from(f.number::<u16>(12)), 9),
+        parameters: f.number(14),
+        arguments: TypeIndex(f.number(16)),
+        adjustment: f.number(20),
+    }))
 }
 
-fn enumerate(b: &[u8], base: usize, index: u32) -> TypeRead
-    requires { base + length b.now < 2 ^ 63 }
-    ensures { result ≡ enumerate_of (Refused (Malformed index)) base b.now }
+fn argument_list(f: &Fields<'_>) -> Result<TypeData, Refusal>
+    ensures { result ≡ argument_list_of (Err (Malformed f.now.index)) f.now.base f.now.bytes.now }
 {
-    if b.len() < 2 {
-        return malformed(index);
-    }
-    let Leaf::Number { value, width, next } = wire::leaf::leaf_at(b, 2, true) else {
-        return malformed(index);
-    };
-    let NameRead::Ended(name) = name_in(b, base, next) else {
-        return malformed(index);
-    };
-    TypeRead::Good(TypeData::Enumerate(EnumerateType {
-        attributes: u16_in(b, 0),
+    Ok(TypeData::ArgumentList(f.entries()?))
+}
+
+fn enumerate(f: &Fields<'_>) -> Result<TypeData, Refusal>
+    ensures { result ≡ enumerate_of (Err (Malformed f.now.index)) f.now.base f.now.bytes.now }
+{
+    f.fixed(2)?;
+    let Leaf { value, width, next } = f.leaf_at(2, true)?;
+    Ok(TypeData::Enumerate(EnumerateType {
+        attributes: f.number(0),
         value,
         width,
+        name: f.name_at(next)?,
+    }))
+}
+
+fn array(f: &Fields<'_>) -> Result<TypeData, Refusal>
+    ensures { result ≡ array_of (Err (Malformed f.now.index)) f.now.base f.now.bytes.now }
+{
+    f.fixed(8)?;
+    let size = f.leaf_at(8, false)?;
+    let name = f.name_at(size.next)?;
+    if u64::from(u32::MAX) < size.value {
+        return Err(f.malformed());
+    }
+    Ok(TypeData::Array(ArrayType {
+        element: TypeIndex(f.number(0)),
+        indexing: TypeIndex(f.number(4)),
+        size: size.value,
         name,
     }))
 }
 
-fn array(b: &[u8], base: usize, index: u32) -> TypeRead
-    requires { base + length b.now < 2 ^ 63 }
-    ensures { result ≡ array_of (Refused (Malformed index)) base b.now }
+pub fn class(f: &Fields<'_>, kind: ClassKind) -> Result<TypeData, Refusal>
+    ensures { result ≡ class_of (Err (Malformed f.now.index)) f.now.base kind f.now.bytes.now }
 {
-    if b.len() < 8 {
-        return malformed(index);
-    }
-    let Leaf::Number {
-        value,
-        width: _,
-        next,
-    } = wire::leaf::leaf_at(b, 8, false)
-    else {
-        return malformed(index);
-    };
-    let NameRead::Ended(name) = name_in(b, base, next) else {
-        return malformed(index);
-    };
-    if 4_294_967_295 < value {
-        return malformed(index);
-    }
-    TypeRead::Good(TypeData::Array(ArrayType {
-        element: TypeIndex(u32_in(b, 0)),
-        indexing: TypeIndex(u32_in(b, 4)),
-        size: value,
-        name,
-    }))
-}
-
-pub fn class(b: &[u8], base: usize, index: u32, kind: ClassKind) -> TypeRead
-    requires { base + length b.now < 2 ^ 63 }
-    ensures { result ≡ class_of (Refused (Malformed index)) base kind b.now }
-{
-    if b.len() < 16 {
-        return malformed(index);
-    }
-    let properties = u16_in(b, 2);
-    let Leaf::Number {
-        value,
-        width: _,
-        next,
-    } = wire::leaf::leaf_at(b, 16, false)
-    else {
-        return malformed(index);
-    };
-    let Names::Both(name, unique) = crate::fields::names_at(b, base, next, properties) else {
-        return malformed(index);
-    };
-    TypeRead::Good(TypeData::Class(ClassType {
+    f.fixed(16)?;
+    let properties: u16 = f.number(2);
+    let size = f.leaf_at(16, false)?;
+    let (name, unique) = f.names_at(size.next, properties)?;
+    Ok(TypeData::Class(ClassType {
         kind,
-        count: u16_in(b, 0),
-        forward: has_bit(properties as u32, 0x80),
-        fields: TypeIndex(u32_in(b, 4)),
-        derived: TypeIndex(u32_in(b, 8)),
-        shape: TypeIndex(u32_in(b, 12)),
-        size: value,
+        count: f.number(0),
+        forward: has_bit(u32::from(properties), 7),
+        fields: TypeIndex(f.number(4)),
+        derived: TypeIndex(f.number(8)),
+        shape: TypeIndex(f.number(12)),
+        size: size.value,
         name,
         unique,
     }))
 }
 
-pub fn union_type(b: &[u8], base: usize, index: u32) -> TypeRead
-    requires { base + length b.now < 2 ^ 63 }
-    ensures { result ≡ union_of (Refused (Malformed index)) base b.now }
+pub fn union_type(f: &Fields<'_>) -> Result<TypeData, Refusal>
+    ensures { result ≡ union_of (Err (Malformed f.now.index)) f.now.base f.now.bytes.now }
 {
-    if b.len() < 8 {
-        return malformed(index);
-    }
-    let properties = u16_in(b, 2);
-    let Leaf::Number {
-        value,
-        width: _,
-        next,
-    } = wire::leaf::leaf_at(b, 8, false)
-    else {
-        return malformed(index);
-    };
-    let Names::Both(name, unique) = crate::fields::names_at(b, base, next, properties) else {
-        return malformed(index);
-    };
-    TypeRead::Good(TypeData::Union(UnionType {
-        count: u16_in(b, 0),
-        forward: has_bit(properties as u32, 0x80),
-        fields: TypeIndex(u32_in(b, 4)),
-        size: value,
+    f.fixed(8)?;
+    let properties: u16 = f.number(2);
+    let size = f.leaf_at(8, false)?;
+    let (name, unique) = f.names_at(size.next, properties)?;
+    Ok(TypeData::Union(UnionType {
+        count: f.number(0),
+        forward: has_bit(u32::from(properties), 7),
+        fields: TypeIndex(f.number(4)),
+        size: size.value,
         name,
         unique,
     }))
 }
 
-fn enumeration(b: &[u8], base: usize, index: u32) -> TypeRead
-    requires { base + length b.now < 2 ^ 63 }
-    ensures { result ≡ enumeration_of (Refused (Malformed index)) base b.now }
+fn enumeration(f: &Fields<'_>) -> Result<TypeData, Refusal>
+    ensures { result ≡ enumeration_of (Err (Malformed f.now.index)) f.now.base f.now.bytes.now }
 {
-    if b.len() < 12 {
-        return malformed(index);
-    }
-    let properties = u16_in(b, 2);
-    let Names::Both(name, unique) = crate::fields::names_at(b, base, 12, properties) else {
-        return malformed(index);
-    };
-    TypeRead::Good(TypeData::Enumeration(EnumerationType {
-        count: u16_in(b, 0),
-        forward: has_bit(properties as u32, 0x80),
-        underlying: TypeIndex(u32_in(b, 4)),
-        fields: TypeIndex(u32_in(b, 8)),
+    f.fixed(12)?;
+    let properties: u16 = f.number(2);
+    let (name, unique) = f.names_at(12, properties)?;
+    Ok(TypeData::Enumeration(EnumerationType {
+        count: f.number(0),
+        forward: has_bit(u32::from(properties), 7),
+        underlying: TypeIndex(f.number(4)),
+        fields: TypeIndex(f.number(8)),
         name,
         unique,
     }))
 }
 
-// A record of the type stream of a kind with a name, or whose fields are not read.
-fn decode_named(b: &[u8], base: usize, kind: u16, index: u32) -> TypeRead
-    requires { (base + length b.now < 2 ^ 63) × NamedKind kind }
-    ensures { result ≡ type_of (Refused (Malformed index)) base kind b.now }
+// A record of the type stream, by its kind.
+#[tactic(auto, unfolding(crate::specs::Record::type_of))]
+fn decode_type(f: &Fields<'_>, kind: u16) -> Result<TypeData, Refusal>
+    ensures { result ≡ type_of (Err (Malformed f.now.index)) f.now.base kind f.now.bytes.now }
 {
     match kind {
-        0x1502 => return enumerate(b, base, index),
-        0x1503 => return array(b, base, index),
-        0x1504 => return class(b, base, index, ClassKind::Class),
-        0x1505 => return class(b, base, index, ClassKind::Struct),
-        0x1519 => return class(b, base, index, ClassKind::Interface),
-        0x1506 => return union_type(b, base, index),
-        0x1507 => return enumeration(b, base, index),
-        0x1203 => return TypeRead::Good(TypeData::Unhandled(kind)),
-        0x1205 => return TypeRead::Good(TypeData::Unhandled(kind)),
-        0x1206 => return TypeRead::Good(TypeData::Unhandled(kind)),
-        _ => return TypeRead::Refused(Refusal::UnlistedKind(kind as u32)),
+        LF_MODIFIER => modifier(f),
+        LF_POINTER => pointer(f),
+        LF_PROCEDURE => procedure(f),
+        LF_MFUNCTION => member_function(f),
+        LF_ARGLIST => argument_list(f),
+        LF_ENUMERATE => enumerate(f),
+        LF_ARRAY => array(f),
+        LF_CLASS => class(f, ClassKind::Class),
+        LF_STRUCTURE => class(f, ClassKind::Struct),
+        LF_INTERFACE => class(f, ClassKind::Interface),
+        LF_UNION => union_type(f),
+        LF_ENUM => enumeration(f),
+        LF_FIELDLIST | LF_BITFIELD | LF_METHODLIST => Ok(TypeData::Unhandled(kind)),
+        _ => Err(Refusal::UnlistedKind(u32::from(kind))),
     }
 }
 
-// Whether an index below 0x1000 is that of a primitive.
-fn is_primitive(index: u32) -> bool
-    ensures { result ≡ pick (leb (index / 256) 7) (first_of (index % 256) primitives (λ _. true) false) false }
+// An index below 0x1000: that of a primitive, or of nothing.
+#[tactic(auto, using(crate::proofs::Laws::by_listed))]
+fn primitive(index: u32) -> Result<TypeData, Refusal>
+    ensures { result ≡ primitive_of index }
 {
     let indirection = index / 256;
+    let code = (index % 256) as u8;
     if 7 < indirection {
-        return false;
+        return Err(Refusal::Missing(index));
     }
-    primitives::is_listed((index % 256) as u8)
-}
-
-fn primitive_type(index: u32) -> TypeRead
-    ensures { result ≡ Good (type.Primitive (record { code = index % 256; indirection = index / 256 })) }
-{
-    TypeRead::Good(TypeData::Primitive(PrimitiveType {
-        indirection: index / 256,
-        code: (index % 256) as u8,
-    }))
-}
-
-fn missing(index: u32) -> TypeRead
-    ensures { result ≡ Refused (Missing index) }
-{
-    TypeRead::Refused(Refusal::Missing(index))
+    if !primitives::is_listed(code) {
+        return Err(Refusal::Missing(index));
+    }
+    Ok(TypeData::Primitive(PrimitiveType { indirection, code }))
 }
 
 // What a type index stands for in a checked stream, found from its places.
-pub fn type_at(s: &[u8], bounds: &[u32], places: &[u32], index: TypeIndex) -> TypeRead
+#[tactic(auto, using(crate::proofs::Laws::by_look, crate::proofs::Laws::look_inside), unfolding(crate::specs::Read::type_from))]
+pub fn type_at(
+    s: &[u8],
+    bounds: &[u32],
+    places: &[u32],
+    index: TypeIndex,
+) -> Result<TypeData, Refusal>
     ensures { result ≡ read_type_in s.now bounds.now places.now index.0 }
 {
     let i = index.0;
     if i < 0x1000 {
-        if is_primitive(i) {
-            return primitive_type(i);
-        }
-        return missing(i);
+        return primitive(i);
     }
-    match look_up_in(s, bounds, places, StreamKind::Types, i) {
-        Found::Record { kind, start, end } => {
-            let b = &s[start..end];
-            if kind == 0x1002 {
-                return pointer(b, start, i);
-            }
-            match kind {
-                0x1001 => return modifier(b, start, i),
-                0x1008 => return procedure(b, start, i),
-                0x1009 => return member_function(b, start, i),
-                0x1201 => return argument_list(b, start, i),
-                _ => {
-                    let t = decode_named(b, start, kind, i);
-                    return t;
-                }
-            }
-        }
-        Found::Missing => return missing(i),
-        Found::CrossModule => return TypeRead::Refused(Refusal::CrossModule(i)),
-    }
+    let record = look_up_in(s, bounds, places, StreamKind::Types, i).map_err(|a| refusal_of(a, i))?;
+    decode_type(&Fields::of(s, record, i), record.kind)
 }

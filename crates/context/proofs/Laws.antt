@@ -1,10 +1,10 @@
--- The laws of the stacks: one step of a search, a push, a change of the newest, and when a stack is full. Assumes nothing.
+-- The laws of the settings and of the stacks: a search, a push, a change of the newest, and when a stack is full. Assumes nothing.
 use Prim.Native.Nat.{ℕ, zero, suc, ◌+◌, ◌-◌, ◌*◌, ◌/◌, ◌%◌, ◌^◌, ◌<◌, ◌≤◌}
 use mathlib.Core.Path.{◌≡◌, refl, ap, sym, ◌∙◌}
-use mathlib.Core.List.{List, ◌∷◌, map}
-use mathlib.Core.Bool.{Bool, true, false, not}
-use lib.ListN.{length, set, drop, get_or, length-set, length-drop, length-map, drop_of_length-le}
-use lib.Seq.{drop-cons, drop-set-lt, get_or-set_same}
+use mathlib.Core.List.{List, [], ◌∷◌, map}
+use mathlib.Core.Bool.{Bool, true, false, not, ◌||◌}
+use lib.ListN.{length, set, take, drop, get_or, length-set, length-drop, length-map, drop_of_length-le}
+use lib.Seq.{take_all, drop-cons, drop-set-lt, get_or-set_same}
 use lib.Bits.{bit_and, and_high}
 use lib.Dec.{eqb, leb}
 use lib.Pow.{high_ones, pow_pos}
@@ -12,11 +12,14 @@ use native.Mathlib.Nat.{one-mul}
 use native.Mathlib.Decide.{dec_lt}
 use native.Mathlib.Numerals.{add-one}
 use native.Mathlib.Omega.{arith}
+use Rattle.std.specs.List.{list_any}
 use borrow.Author.Tests.{eq-eqb, ne_eqb, lt-leb, le-leb, lt-ltb}
 use Rattle.interpreter.specs.Trace.{key}
+use Rattle.rules.specs.Flags.{settings}
 use Rattle.rules.specs.Text.{Level, level, over_pointee}
 use Rattle.codeview.specs.Record.{bit}
 use Rattle.codeview.specs.declared.record.PointerMode.{PointerMode}
+use Rattle.context.specs.declared.flags.Call.{Call}
 use Rattle.context.specs.declared.levels.Levels.{Levels}
 use Rattle.context.specs.declared.levels.Dimensions.{Dimensions}
 use Rattle.context.specs.declared.levels.PtrAttributes.{PtrAttributes}
@@ -25,8 +28,8 @@ use Rattle.streams.specs.declared.refusal.Refusal.TheVariants.{CircularTypeDefin
 use Rattle.pen.specs.Page.{read_pen, idle, refused_pen, opened_pen}
 use Rattle.pen.proofs.Laws.{refused-alive}
 use Rattle.pen.specs.declared.Pen.{Pen}
-use Rattle.context.specs.Context.{intersects, key_of, keys_of, has_index, flags_byte, mode_byte, mode_at, level_byte, level_of, level_at, over_levels, sizes_of, pushed_dimension}
-use Rattle.context.specs.Opening.{way_of, leaves, opens_to}
+use Rattle.context.specs.Context.{intersects, settings_of, key_of, keys_of, has_index, flags_byte, mode_byte, mode_at, level_byte, level_of, level_at, over_levels, sizes_of, pushed_dimension}
+use Rattle.context.specs.Opening.{noted, leaves, opens_to}
 use Rattle.context.specs.declared.seen.Way.{Way}
 
 -- a flag that is one bit
@@ -42,43 +45,37 @@ flag-bit k n =
     let e : bit_and n (2 ^ k) ≡ (n / 2 ^ k % 2) * 2 ^ k = ap (bit_and n) w ∙ and_high n 1 k in
     rw e (one_bit (n / 2 ^ k % 2) (2 ^ k) (omega arith) (pow_pos k))
 
--- one step of a search
-pub has_here : (l : List ℕ) (n i : ℕ) → n < length l → get_or l n 0 % 4_294_967_296 ≡ i → has_index i (keys_of (drop n l)) ≡ true
+-- the settings of a call, each by its flag
+module _ (c : Call) where
+  pub sets_no_return : intersects c.flags.0 0b1 ≡ (settings_of c).no_return
+  unfolding settings_of settings
+  sets_no_return = flag-bit 0 c.flags.0
+
+  pub sets_no_static : intersects c.flags.0 0b10 ≡ (settings_of c).no_static
+  unfolding settings_of settings
+  sets_no_static = flag-bit 1 c.flags.0
+
+  pub sets_space_comma : intersects c.flags.0 0b100 ≡ (settings_of c).space_comma
+  unfolding settings_of settings
+  sets_space_comma = flag-bit 2 c.flags.0
+
+  pub sets_space_pointer : intersects c.flags.0 0b1000 ≡ (settings_of c).space_pointer
+  unfolding settings_of settings
+  sets_space_pointer = flag-bit 3 c.flags.0
+
+  pub sets_name_only : intersects c.flags.0 0b1_0000 ≡ (settings_of c).name_only
+  unfolding settings_of settings
+  sets_name_only = flag-bit 4 c.flags.0
+
+  pub sets_no_arguments : intersects c.flags.0 0b10_0000 ≡ (settings_of c).no_arguments
+  unfolding settings_of settings
+  sets_no_arguments = flag-bit 5 c.flags.0
+
+-- a search of the open indexes
+pub any-has : (l : List ℕ) (i : ℕ) → list_any (λ x. eqb (x % 4_294_967_296) i) l ≡ has_index i (keys_of l)
 unfolding has_index keys_of
-has_here l n i h e = rw (drop-cons l n 0 h) (simp (eq-eqb _ _ e))
-
-pub has-next : (l : List ℕ) (n i : ℕ) → n < length l → (get_or l n 0 % 4_294_967_296 ≡ i → ⊥) → has_index i (keys_of (drop n l)) ≡ has_index i (keys_of (drop (n + 1) l))
-unfolding has_index keys_of
-has-next l n i h e = rw (add-one, drop-cons l n 0 h) (simp (ne_eqb _ _ e))
-
-pub has-none : (l : List ℕ) (n i : ℕ) → length l ≤ n → has_index i (keys_of (drop n l)) ≡ false
-unfolding has_index keys_of
-has-none l n i h = rw (drop_of_length-le l h)
-
--- four at a turn
-module _ (l : List ℕ) (n i : ℕ) (h : n + 4 ≤ length l) where
-  abbrev Misses : ℕ → Type 0
-  Misses k = get_or l (n + k) 0 % 4_294_967_296 ≡ i → ⊥
-
-  past : (k : ℕ) → k < 4 → Misses k → has_index i (keys_of (drop (n + k) l)) ≡ has_index i (keys_of (drop (n + (k + 1)) l))
-  past k b m =
-      let e : (n + k) + 1 ≡ n + (k + 1) = omega arith in
-      has-next l (n + k) i (omega arith) m ∙ ap (λ (j : ℕ). has_index i (keys_of (drop j l))) e
-
-  first : (get_or l n 0 % 4_294_967_296 ≡ i → ⊥) → has_index i (keys_of (drop n l)) ≡ has_index i (keys_of (drop (n + 1) l))
-  first m = has-next l n i (omega arith) m
-
-  pub has-second : (get_or l n 0 % 4_294_967_296 ≡ i → ⊥) → get_or l (n + 1) 0 % 4_294_967_296 ≡ i → has_index i (keys_of (drop n l)) ≡ true
-  has-second a e = first a ∙ has_here l (n + 1) i (omega arith) e
-
-  pub has-third : (get_or l n 0 % 4_294_967_296 ≡ i → ⊥) → Misses 1 → get_or l (n + 2) 0 % 4_294_967_296 ≡ i → has_index i (keys_of (drop n l)) ≡ true
-  has-third a b e = first a ∙ past 1 (omega arith) b ∙ has_here l (n + 2) i (omega arith) e
-
-  pub has-fourth : (get_or l n 0 % 4_294_967_296 ≡ i → ⊥) → Misses 1 → Misses 2 → get_or l (n + 3) 0 % 4_294_967_296 ≡ i → has_index i (keys_of (drop n l)) ≡ true
-  has-fourth a b c e = first a ∙ past 1 (omega arith) b ∙ past 2 (omega arith) c ∙ has_here l (n + 3) i (omega arith) e
-
-  pub has-behind : (get_or l n 0 % 4_294_967_296 ≡ i → ⊥) → Misses 1 → Misses 2 → Misses 3 → has_index i (keys_of (drop n l)) ≡ has_index i (keys_of (drop (n + 4) l))
-  has-behind a b c d = first a ∙ past 1 (omega arith) b ∙ past 2 (omega arith) c ∙ past 3 (omega arith) d
+any-has [] i = refl
+any-has (x ∷ l) i = ap (λ b. eqb (x % 4_294_967_296) i || b) (any-has l i)
 
 -- a push
 pub drop-set : {A : Type 0} (l : List A) (n : ℕ) (x : A) → n < length l → drop n (set l n x) ≡ x ∷ drop (n + 1) l
@@ -107,25 +104,27 @@ pub keys_length : (l : List ℕ) → length (keys_of l) ≡ length l
 unfolding keys_of
 keys_length l = length-map l key_of
 
--- what an opening comes to
+-- what an opening comes to, by a search of the open part of the list
 module _ (p : Pen) (list : List ℕ) (left : ℕ) (w : Way) (i : ℕ) where
   pub opens-idle : idle (read_pen p).stop ≡ true → leaves list p ≡ opens_to p list left w i
   unfolding opens_to
   opens-idle a = rw a
 
-  module _ (a : idle (read_pen p).stop ≡ false) where
-    pub opens-again : (q : Pen) → has_index i (keys_of (drop left list)) ≡ true → q ≡ refused_pen p (CircularTypeDefinition i) → leaves list q ≡ opens_to p list left w i
+  module _ (a : idle (read_pen p).stop ≡ false) (n : length list ≡ 96) (b : Bool) (e : b ≡ list_any (λ x. eqb (x % 4_294_967_296) i) (take (96 - left) (drop left list))) where
+    among : has_index i (keys_of (drop left list)) ≡ b
+    among = let k : length (drop left list) ≤ 96 - left = simp length-drop (omega arith) in sym (any-has (drop left list) i) ∙ sym (rw (take_all (96 - left) (drop left list) k) at e)
+
+    pub opens-again : (q : Pen) → b ≡ true → q ≡ refused_pen p (CircularTypeDefinition i) → leaves list q ≡ opens_to p list left w i
     unfolding opens_to
-    opens-again q b e = rw (a, b, e, refused-alive p (CircularTypeDefinition i) a)
+    opens-again q f g = rw (a, among, f, g, refused-alive p (CircularTypeDefinition i) a)
 
-    module _ (b : has_index i (keys_of (drop left list)) ≡ false) where
-      pub opens-full : (q : Pen) → left ≡ 0 → q ≡ refused_pen p (TooManyOpen i) → leaves list q ≡ opens_to p list left w i
-      unfolding opens_to
-      opens-full q f e = rw (a, b, eq-eqb left 0 f, e, refused-alive p (TooManyOpen i) a)
+    pub opens-full : (q : Pen) → b ≡ false → left ≡ 0 → q ≡ refused_pen p (TooManyOpen i) → leaves list q ≡ opens_to p list left w i
+    unfolding opens_to
+    opens-full q f z g = rw (a, among, f, eq-eqb left 0 z, g, refused-alive p (TooManyOpen i) a)
 
-      pub opens_in : (q : Pen) (x : ℕ) → (left ≡ 0 → ⊥) → x ≡ way_of w → q ≡ opened_pen p → leaves (set list (left - 1) (x * 4_294_967_296 + i)) q ≡ opens_to p list left w i
-      unfolding opens_to
-      opens_in q x f g e = rw (a, b, ne_eqb left 0 f, g, e)
+    pub opens_in : (q : Pen) (x : ℕ) → b ≡ false → (left ≡ 0 → ⊥) → x ≡ noted w i → q ≡ opened_pen p → leaves (set list (left - 1) x) q ≡ opens_to p list left w i
+    unfolding opens_to
+    opens_in q x f z h g = rw (a, among, f, ne_eqb left 0 z, h, g)
 
 -- one level of an array more, and how many more may follow
 pub pushed-left : (o : Dimensions) (x n : ℕ) → o.left ≡ suc n → (pushed_dimension o x).left ≡ n
@@ -177,15 +176,11 @@ pub levels-push : (l : List ℕ) (n x : ℕ) (v : Level) → 0 < n → n ≤ len
     → map level_at (drop (n - 1) (set l (n - 1) x)) ≡ v ∷ map level_at (drop n l)
 levels-push l n x v h k e = rw (drop-push l n x h k, ← e)
 
--- a change of the newest level, and of none
+-- a change of the newest level
 pub over-newest : (l : List ℕ) (n x : ℕ) (c : Bool) → n < length l → level_at x ≡ level (level_at (get_or l n 0)).constant c (level_at (get_or l n 0)).mode
     → map level_at (drop n (set l n x)) ≡ over_pointee c (map level_at (drop n l))
 unfolding over_pointee
 over-newest l n x c h e = rw (drop-set l n x h, drop-cons l n 0 h, add-one, e)
-
-pub over_none : (l : List ℕ) (n : ℕ) (c : Bool) → length l ≤ n → map level_at (drop n l) ≡ over_pointee c (map level_at (drop n l))
-unfolding over_pointee
-over_none l n c h = rw (drop_of_length-le l h)
 
 pub over-read : (r : PtrAttributes) (b : ℕ) (c : Bool) → level_of r ≡ level_at b → level r.constant c r.mode ≡ level (level_at b).constant c (level_at b).mode
 over-read r b c e = ap (λ (l : Level). level l.constant c l.mode) e
@@ -196,27 +191,3 @@ unfolding over_levels
 over-is o x c r h e k =
     let m : x ≡ level_byte (level_at (get_or o.items o.left 0)).constant c (level_at (get_or o.items o.left 0)).mode = k ∙ ap (λ (l : Level). level_byte l.constant c l.mode) e in
     simp (lt-ltb _ _ h) (rw m)
-
--- the five modes
-pub mode-first : (n : ℕ) → n ≡ 0 → mode.Pointer ≡ mode_at n
-unfolding mode_at
-mode-first n e = rw e
-
-pub mode-second : (n : ℕ) → n ≡ 1 → mode.LValueReference ≡ mode_at n
-unfolding mode_at
-mode-second n e = rw e
-
-pub mode-third : (n : ℕ) → n ≡ 2 → mode.Member ≡ mode_at n
-unfolding mode_at
-mode-third n e = rw e
-
-pub mode-fourth : (n : ℕ) → n ≡ 3 → mode.MemberFunction ≡ mode_at n
-unfolding mode_at
-mode-fourth n e = rw e
-
-pub mode-fifth : (n : ℕ) → (n ≡ 0 → ⊥) → (n ≡ 1 → ⊥) → (n ≡ 2 → ⊥) → (n ≡ 3 → ⊥) → mode.RValueReference ≡ mode_at n
-unfolding mode_at
-mode-fifth n a b c d = rw (ne_eqb n 0 a, ne_eqb n 1 b, ne_eqb n 2 c, ne_eqb n 3 d)
-
-pub byte-as : (m n : PointerMode) → m ≡ n → mode_byte n ≡ mode_byte m
-byte-as m n e = rw e

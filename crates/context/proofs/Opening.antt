@@ -8,13 +8,12 @@ use lib.ListN.{length, drop, set, length-set, length-drop, drop_of_length-le}
 use lib.Seq.{drop-drop, drop-set-lt}
 use native.Mathlib.Omega.{arith}
 use borrow.Author.Tests.{lt-leb, le-leb, eqb-true, eqb-false}
+use Rattle.std.specs.Prelude.{Result, Ok, Err}
 use Rattle.wire.specs.Field.{pick}
 use Rattle.streams.specs.Refusal.{number_of, detail_of}
 use Rattle.streams.specs.declared.refusal.Refusal.{Refusal}
 use Rattle.streams.specs.declared.refusal.Refusal.TheVariants.{CircularTypeDefinition, TooManyOpen}
 use Rattle.codeview.specs.declared.record.TypeData.{TypeData}
-use Rattle.codeview.specs.declared.record.TypeRead.{TypeRead}
-use Rattle.codeview.specs.declared.record.TypeRead.TheVariants as type_read
 use Rattle.interpreter.specs.Trace.{Trace, tr, halted, again, deep, count, prefix, Key, key, Held, held, through, opens, is_open, exec, strict, refuse}
 use Rattle.interpreter.specs.Trace as trace
 use Rattle.interpreter.proofs.Laws.{walk_through, walk-again, walk-deep, walk-open}
@@ -164,13 +163,13 @@ module _ (s : List ℕ) (d : Lent) (call : Call) where
     h = holding call o
 
     -- What was read.
-    pub read-good : (i : ℕ) (r : TypeRead) (x : TypeData) → r ≡ read_near s d.near i → r ≡ type_read.Good x → t.types i ≡ good (type_contents s x)
+    pub read-good : (i : ℕ) (r : Result TypeData Refusal) (x : TypeData) → r ≡ read_near s d.near i → r ≡ Ok x → t.types i ≡ good (type_contents s x)
     unfolding table_in table_by type_as_read
-    read-good i r x e f = let k : read_near s d.near i ≡ type_read.Good x = cc in rw k
+    read-good i r x e f = let k : read_near s d.near i ≡ Ok x = cc in rw k
 
-    pub read-bad : (i : ℕ) (r : TypeRead) (f : Refusal) → r ≡ read_near s d.near i → r ≡ type_read.Refused f → t.types i ≡ bad f
+    pub read-bad : (i : ℕ) (r : Result TypeData Refusal) (f : Refusal) → r ≡ read_near s d.near i → r ≡ Err f → t.types i ≡ bad f
     unfolding table_in table_by type_as_read
-    read-bad i r f e g = let k : read_near s d.near i ≡ type_read.Refused f = cc in rw k
+    read-bad i r f e g = let k : read_near s d.near i ≡ Err f = cc in rw k
 
     pub walk-on : (q : Task) (p : Rule) → entry_of c t q ≡ through → body c t q ≡ p → step ⨾ ruled c t h p ≡ walked c t h q
     unfolding walked ruled step ◌⨾◌
@@ -247,12 +246,12 @@ module _ (s : List ℕ) (d : Lent) (call : Call) where
 
     -- And for one that is opened and then read: k is what the rule does with its record.
     module _ (k : Record → Rule) (e₁ : body c t x ≡ inside (t.types i) k) {p q : Pen} {l : List ℕ} (b : List ℕ)
-        (z : Opens p list left w i l q) (room : length list ≡ 96) (low : left ≤ 96) (go : idle (read_pen q).stop ≡ false) {r : TypeRead} (y : r ≡ read_near s d.near i) where
-      pub type-open : {a : TypeData} {m : List ℕ} {g : Page} → r ≡ type_read.Good a → Writes (left - 1) l m (page b q) (λ o. ruled c t (holding call o) (k (type_contents s a))) g
+        (z : Opens p list left w i l q) (room : length list ≡ 96) (low : left ≤ 96) (go : idle (read_pen q).stop ≡ false) {r : (Result TypeData Refusal)} (y : r ≡ read_near s d.near i) where
+      pub type-open : {a : TypeData} {m : List ℕ} {g : Page} → r ≡ Ok a → Writes (left - 1) l m (page b q) (λ o. ruled c t (holding call o) (k (type_contents s a))) g
           → Writes left list m (page b p) walk g
       type-open {a} f v = opened-then b (k (type_contents s a)) (open_in z room low go) (e₁ ∙ rw (read-good (drop left list) i r a y f)) v
 
-      pub type-bad : {f : Refusal} {g : Page} → r ≡ type_read.Refused f → Wrote (page b q) (unread_trace f) g → Writes left list l (page b p) walk g
+      pub type-bad : {f : Refusal} {g : Page} → r ≡ Err f → Wrote (page b q) (unread_trace f) g → Writes left list l (page b p) walk g
       type-bad {f} h v =
           opened-then b (unread f) (open_in z room low go) (e₁ ∙ rw (read-bad (drop left list) i r f y h))
           (unlent (wrote_by v (unread-is c t (holding call (drop (left - 1) l)) f)))

@@ -1,23 +1,23 @@
 -- What the values that are passed down stand for: settings, open keys, pointer levels, array levels.
-use Rattle.std.specs.Prelude.{ℕ, ◌+◌, ◌-◌, ◌/◌, ◌%◌, ◌≡◌, Bool, true, false, not, ◌||◌, List, [], ◌∷◌, map, drop, get_or, replicate, set, eqb, ltb}
+use Rattle.std.specs.Prelude.{ℕ, ◌+◌, ◌-◌, ◌/◌, ◌%◌, ◌≡◌, Bool, true, false, not, ◌||◌, List, [], ◌∷◌, map, drop, get_or, replicate, set, eqb, ltb, Result, Ok, Err}
 use Rattle.std.specs.Int.Bits.{bit_and}
 use Rattle.wire.specs.Field.{pick}
+use Rattle.streams.specs.declared.refusal.Refusal.{Refusal}
 use Rattle.streams.specs.declared.refusal.Refusal.TheVariants.{UnknownFlags}
 use Rattle.codeview.specs.declared.record.PointerMode.{PointerMode}
 use Rattle.codeview.specs.declared.record.PointerMode.TheVariants as mode
 use Rattle.interpreter.specs.Trace.{Key, key, Held, held}
 use Rattle.rules.specs.Flags.{Settings, settings}
 use Rattle.rules.specs.Text.{Level, level}
-use Rattle.context.specs.declared.flags.FlagsRead.{FlagsRead}
-use Rattle.context.specs.declared.flags.FlagsRead.TheVariants.{Known, Refused}
+use Rattle.context.specs.declared.flags.TypeFormatterFlags.{TypeFormatterFlags}
 use Rattle.context.specs.declared.flags.Call.{Call}
 use Rattle.context.specs.declared.levels.PtrAttributes.{PtrAttributes}
 use Rattle.context.specs.declared.levels.Levels.{Levels}
 use Rattle.context.specs.declared.levels.Dimensions.{Dimensions}
 
 -- The flags of a number, or refusal 1.
-unfoldable pub known : ℕ → FlagsRead
-known bits = pick (ltb bits 64) (Known (record { 0 = bits })) (Refused (UnknownFlags bits))
+unfoldable pub known : ℕ → Result TypeFormatterFlags Refusal
+known bits = pick (ltb bits 64) (Ok (record { 0 = bits })) (Err (UnknownFlags bits))
 
 -- Whether two sums of flags have a bit in common, as the Rust has it: `self.bits & other.bits != 0`.
 unfoldable pub intersects : ℕ → ℕ → Bool

@@ -1,17 +1,11 @@
 // The flags of a call, and what is the same for a whole call.
-ghost use Rattle.std.specs.Prelude.{◌≡◌, ◌/◌, ◌%◌, ◌<◌, eqb};
+ghost use Rattle.std.specs.Prelude.{◌≡◌};
 ghost use Rattle.context.specs.Context.{known};
 
 use streams::refusal::Refusal;
 
-#[derive(Clone, Copy)]
+#[derive(Clone, Copy, PartialEq, Eq)]
 pub struct TypeFormatterFlags(pub u32);
-
-#[derive(Clone, Copy)]
-pub enum FlagsRead {
-    Known(TypeFormatterFlags),
-    Refused(Refusal),
-}
 
 impl TypeFormatterFlags {
     // Do not print the return type of the root function.
@@ -28,16 +22,18 @@ impl TypeFormatterFlags {
     pub const NO_ARGUMENTS: TypeFormatterFlags = TypeFormatterFlags(0b10_0000);
 
     // The flags of a number: 1 where it has a bit that is no flag.
-    pub fn from_bits(bits: u32) -> FlagsRead
+    #[tactic(auto, unfolding(crate::specs::Context::known))]
+    pub fn from_bits(bits: u32) -> Result<TypeFormatterFlags, Refusal>
         ensures { result ≡ known bits }
     {
         if bits < 64 {
-            return FlagsRead::Known(TypeFormatterFlags(bits));
+            return Ok(TypeFormatterFlags(bits));
         }
-        FlagsRead::Refused(Refusal::UnknownFlags(bits))
+        Err(Refusal::UnknownFlags(bits))
     }
 
     // Whether some flag is among both.
+    #[tactic(auto, unfolding(crate::specs::Context::intersects))]
     pub fn intersects(self, other: TypeFormatterFlags) -> bool
         ensures { result ≡ Rattle.context.specs.Context.intersects self.0 other.0 }
     {
@@ -51,4 +47,13 @@ pub struct Call {
     pub flags: TypeFormatterFlags,
     pub size: u32,
     pub chain: u32,
+}
+
+impl Call {
+    // Whether a flag is set.
+    pub fn has(self, flag: TypeFormatterFlags) -> bool
+        ensures { result ≡ Rattle.context.specs.Context.intersects self.flags.0 flag.0 }
+    {
+        self.flags.intersects(flag)
+    }
 }

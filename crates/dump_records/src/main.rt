@@ -7,8 +7,8 @@ ghost use Rattle.std.specs.Prelude.{◌<◌};
 use codeview::index::{IdIndex, TypeIndex};
 use codeview::record::{
     ArrayType, ClassKind, ClassType, Entries, EnumerateType, EnumerationType, FunctionId, IdData,
-    IdRead, MemberFunctionId, MemberFunctionType, ModifierType, PointerMode, PointerType,
-    ProcedureType, StringId, TypeData, TypeRead, UnionType, UniqueName,
+    MemberFunctionId, MemberFunctionType, ModifierType, PointerMode, PointerType, ProcedureType,
+    StringId, TypeData, UnionType,
 };
 use files::say;
 use std::io;
@@ -16,8 +16,7 @@ use std::rt::{Env, Files};
 use streams::bounds::{bounds_of, look_up_in};
 use streams::chains::check_stream;
 use streams::refusal::{Refusal, StreamKind};
-use streams::stream::{Found, StreamCheck};
-use wire::field::Field32;
+use wire::field::field_at;
 use wire::name::Name;
 
 fn hex(rt: &impl Print, label: &[u8], n: u32) -> io::Result<()> {
@@ -39,26 +38,15 @@ fn mark(rt: &impl Print, on: bool, label: &[u8]) -> io::Result<()> {
 
 // A byte of a name; what is not a plain character is printed as its number.
 fn letter(rt: &impl Print, b: u8) -> io::Result<()> {
-    if b < 0x20 {
-        return print!(rt; "\\x{b:02x}");
+    match b {
+        0x20..=0x7e => say(rt, &[b]),
+        _ => print!(rt; "\\x{b:02x}"),
     }
-    if 0x7e < b {
-        return print!(rt; "\\x{b:02x}");
-    }
-    let one = [b];
-    say(rt, &one)
 }
 
 fn letters(rt: &impl Print, s: &[u8], start: usize, len: usize) -> io::Result<()> {
-    let mut at = start;
-    let mut left = len;
-    while 0 < left {
-        if s.len() <= at {
-            return Ok(());
-        }
-        letter(rt, s[at])?;
-        at += 1;
-        left -= 1;
+    for b in s.iter().skip(start).take(len) {
+        letter(rt, *b)?;
     }
     Ok(())
 }
@@ -70,8 +58,8 @@ fn name(rt: &impl Print, s: &[u8], label: &[u8], n: Name) -> io::Result<()> {
     say(rt, b"`")
 }
 
-fn unique(rt: &impl Print, s: &[u8], u: UniqueName) -> io::Result<()> {
-    if let UniqueName::Given(n) = u {
+fn unique(rt: &impl Print, s: &[u8], u: Option<Name>) -> io::Result<()> {
+    if let Some(n) = u {
         name(rt, s, b" unique=", n)?;
     }
     Ok(())
@@ -83,17 +71,12 @@ fn entry(rt: &impl Print, n: u32) -> io::Result<()> {
 
 fn list(rt: &impl Print, s: &[u8], e: Entries) -> io::Result<()> {
     let mut at = e.start;
-    let mut left = e.count;
-    while 0 < left {
-        if s.len() <= at {
-            return Ok(());
-        }
-        let Field32::Value(n) = wire::field::u32_at(s, at) else {
+    for _ in 0..e.count {
+        let Some(n) = field_at::<u32>(s, at) else {
             return Ok(());
         };
         entry(rt, n)?;
-        at += 4;
-        left -= 1;
+        at = at.wrapping_add(4);
     }
     Ok(())
 }
@@ -163,8 +146,7 @@ fn class(rt: &impl Print, s: &[u8], c: ClassType) -> io::Result<()> {
     hex(rt, b" shape=", c.shape.0)?;
     mark(rt, c.forward, b" forward")?;
     name(rt, s, b" name=", c.name)?;
-    let u = c.unique;
-    unique(rt, s, u)
+    unique(rt, s, c.unique)
 }
 
 fn union_type(rt: &impl Print, s: &[u8], u: UnionType) -> io::Result<()> {
@@ -172,8 +154,7 @@ fn union_type(rt: &impl Print, s: &[u8], u: UnionType) -> io::Result<()> {
     hex(rt, b" fields=", u.fields.0)?;
     mark(rt, u.forward, b" forward")?;
     name(rt, s, b" name=", u.name)?;
-    let q = u.unique;
-    unique(rt, s, q)
+    unique(rt, s, u.unique)
 }
 
 fn enumeration(rt: &impl Print, s: &[u8], e: EnumerationType) -> io::Result<()> {
@@ -181,8 +162,7 @@ fn enumeration(rt: &impl Print, s: &[u8], e: EnumerationType) -> io::Result<()> 
     hex(rt, b" fields=", e.fields.0)?;
     mark(rt, e.forward, b" forward")?;
     name(rt, s, b" name=", e.name)?;
-    let q = e.unique;
-    unique(rt, s, q)
+    unique(rt, s, e.unique)
 }
 
 fn type_data(rt: &impl Print, s: &[u8], t: TypeData) -> io::Result<()> {
@@ -252,8 +232,8 @@ fn type_line(
     index: u32,
 ) -> io::Result<()> {
     match codeview::types::type_at(s, bounds, places, TypeIndex(index)) {
-        TypeRead::Good(t) => type_data(rt, s, t),
-        TypeRead::Refused(f) => refused(rt, f),
+        Ok(t) => type_data(rt, s, t),
+        Err(f) => refused(rt, f),
     }
 }
 
@@ -265,8 +245,8 @@ fn id_line(
     index: u32,
 ) -> io::Result<()> {
     match codeview::ids::id_at(s, bounds, places, IdIndex(index)) {
-        IdRead::Good(d) => id_data(rt, s, d),
-        IdRead::Refused(f) => refused(rt, f),
+        Ok(d) => id_data(rt, s, d),
+        Err(f) => refused(rt, f),
     }
 }
 
@@ -279,13 +259,8 @@ fn line(
     index: u32,
 ) -> io::Result<()> {
     hex(rt, b"", index)?;
-    if let Found::Record {
-        kind,
-        start: _,
-        end: _,
-    } = look_up_in(s, bounds, places, which, index)
-    {
-        hex(rt, b" ", kind as u32)?;
+    if let Ok(record) = look_up_in(s, bounds, places, which, index) {
+        hex(rt, b" ", u32::from(record.kind))?;
     }
     match which {
         StreamKind::Types => type_line(rt, s, bounds, places, index)?,
@@ -303,10 +278,8 @@ fn lines(
     first: u32,
     end: u32,
 ) -> io::Result<()> {
-    let mut index = first;
-    while index < end {
+    for index in first..end {
         line(rt, s, bounds, places, which, index)?;
-        index += 1;
     }
     Ok(())
 }
@@ -315,13 +288,12 @@ fn lines(
 fn table(rt: &impl Print, s: &[u8], which: StreamKind) -> io::Result<()> {
     let mut places = [0u32; 256];
     let a = check_stream(s, which, &mut places);
-    let c = a.check;
-    match c {
-        StreamCheck::Good(stream) => {
+    match a.check {
+        Ok(stream) => {
             let bounds = bounds_of(a, a, 0);
             lines(rt, s, &bounds, &places, which, stream.first, stream.end)
         }
-        StreamCheck::Refused(f) => {
+        Err(f) => {
             decimal(rt, b"refused ", f.number() as u64)?;
             hex(rt, b" ", f.detail())?;
             say(rt, b"\n")
@@ -388,13 +360,8 @@ fn main(rt: HostRuntime) -> io::Result<()> {
     if (count < 3) | (count % 2 == 0) {
         return usage(&rt);
     }
-    let mut i = 1;
-    while i < count {
-        if 4096 <= i {
-            return Ok(());
-        }
+    for i in (1..count.min(4096)).step_by(2) {
         pair(&rt, i)?;
-        i += 2;
     }
     Ok(())
 }

@@ -1,14 +1,12 @@
 -- The laws of the strict walk: what each writer's trace is, at the tests that lead to each of its returns. Assumes nothing.
+use Rattle.std.specs.Prelude.{Option, Some, None, Result, Ok, Err}
 use Prim.Native.Nat.{ℕ, zero, suc, ◌+◌, ◌-◌, ◌*◌, ◌<◌, ◌≤◌}
-use mathlib.Core.Path.{◌≡◌, refl, ap, ap₂, sym, ◌∙◌}
+use mathlib.Core.Path.{◌≡◌, refl, ap, sym, ◌∙◌}
 use mathlib.Core.List.{List, [], ◌∷◌, ◌++◌, append_assoc}
 use mathlib.Core.Bool.{Bool, true, false, ◌||◌, ◌&&◌}
-use lib.Dec.{eqb, leb}
+use lib.Dec.{eqb}
 use lib.ListN.{length, drop}
-use native.Mathlib.Nat.{zero-add}
-use native.Mathlib.Numerals.{add-one}
 use native.Mathlib.Omega.{arith}
-use borrow.Author.Tests.{eq-eqb, ne_eqb}
 use denote.Enum.Declared.{tag_of}
 use package.types.Run.{OneOf}
 use Rattle.wire.specs.Field.{pick, number}
@@ -16,7 +14,7 @@ use Rattle.wire.specs.Text.{bytes}
 use Rattle.streams.specs.Refusal.{number_of, detail_of}
 use Rattle.streams.specs.declared.refusal.Refusal.{Refusal}
 use Rattle.streams.specs.declared.refusal.Refusal.TheVariants.{ArgumentTypeNotArgumentList}
-use Rattle.codeview.specs.declared.record.PointerMode.{PointerMode}
+use Rattle.codeview.specs.declared.index.TypeIndex.{TypeIndex}
 use Rattle.codeview.specs.declared.record.PrimitiveType.{PrimitiveType}
 use Rattle.codeview.specs.declared.record.ModifierType.{ModifierType}
 use Rattle.codeview.specs.declared.record.PointerType.{PointerType}
@@ -26,76 +24,20 @@ use Rattle.codeview.specs.declared.record.ArrayType.{ArrayType}
 use Rattle.codeview.specs.declared.record.Entries.{Entries}
 use Rattle.codeview.specs.declared.record.TypeData.{TypeData}
 use Rattle.codeview.specs.declared.record.TypeData.TheVariants as type
-use Rattle.codeview.specs.declared.record.TypeRead.{TypeRead}
-use Rattle.codeview.specs.declared.record.TypeRead.TheVariants.{Good, Refused}
 use Rattle.codeview.specs.contracts.record.TypeData.{the_type}
 use Rattle.codeview.proofs.Tags.{by-tag}
-use Rattle.interpreter.specs.Trace.{
-  Note,
-  Count,
-  plus,
-  Trace,
-  tr,
-  End,
-  done,
-  missing,
-  refused,
-  halted,
-  again,
-  deep,
-  long,
-  count,
-  Key,
-  key,
-  Held,
-  held,
-  Entry,
-  through,
-  opens,
-  is_open,
-  prefix,
-  then,
-  asked,
-  exec,
-  strict,
-  write,
-  refuse,
-  limit,
-  call,
-  seq,
-  after,
-}
+use Rattle.interpreter.specs.Trace.{Note, Count, plus, Trace, tr, done, missing, refused, halted, long, count, key, Held, opens, prefix, then, asked, exec, strict, write, refuse, call, seq, after}
 use Rattle.interpreter.specs.Trace as trace
 use Rattle.rules.specs.Flags.{Settings}
-use Rattle.rules.specs.Record.{
-  Record,
-  Method,
-  Read,
-  good,
-  bad,
-  Table,
-  method,
-  procedure,
-  arguments,
-  pointer_or,
-  modifier_or,
-  procedure_or,
-  method_or,
-  arguments_or,
-  primitive_or,
-  named_or,
-  type_contents,
-  type_as_read,
-  numbers_at,
-}
+use Rattle.rules.specs.Record.{Record, Method, bad, Table, method, procedure, arguments, type_contents, type_as_read, numbers_at}
 use Rattle.rules.specs.Places.{table_by, read_near, Lent, table_in}
 use Rattle.rules.specs.Text.{missing_mark, primitive_text, Level, level, levels, over_pointee, ends_signed, brackets}
-use Rattle.rules.specs.Task.{Task, by_itself, target, target_of_modifier, modified, list_of, element, size_of, Rule, inside, texted, unread, marked, value_of, separated}
-use Rattle.rules.specs.Types.{result, procedure_result, returned, method_arguments, argument_entries, named_text, type_text, alone}
+use Rattle.rules.specs.Task.{by_itself, target, target_of_modifier, modified, list_of, element, Rule, inside, texted, marked, value_of, separated}
+use Rattle.rules.specs.Types.{result, procedure_result, returned, method_arguments, argument_entries, type_text, alone}
 use Rattle.rules.specs.Pointers.{pointed, aimed, aimed_again, modified_text}
-use Rattle.rules.specs.Methods.{method_text, this_pointer, method_list}
+use Rattle.rules.specs.Methods.{method_text, method_list}
 use Rattle.rules.specs.Arrays.{base_text}
-use Rattle.rules.specs.Opening.{after_read, same_index, entry_of, body, rank, walked, ruled}
+use Rattle.rules.specs.Opening.{after_read, entry_of, body, walked, ruled}
 use Rattle.pen.specs.declared.Pen.{Pen}
 use Rattle.pen.specs.Page.{Page, page, read_pen, Wrote, page_after, idle, writing, step, unread_trace, last, ◌⨾◌, ending, marking}
 use Rattle.pen.proofs.Laws.{◌▹◌, ◌▸◌, wrote_as, wrote-step, wrote-idle, wrote-same, wrote_by, prefix-none}
@@ -108,17 +50,14 @@ use Rattle.context.proofs.Opening.{ruled-pick, unread-is, read-good, read-bad, w
 use Rattle.leaf_writers.specs.Marks.{mark_trace}
 use Rattle.leaf_writers.specs.Fragments.{record_text, is_sign}
 use Rattle.queries.specs.This.{this_of, by_this}
-use Rattle.queries.specs.declared.this.ThisRead.{ThisRead}
-use Rattle.queries.specs.declared.this.ThisRead.TheVariants as this
 use Rattle.queries.proofs.ThisLaws.{this-is}
 use Rattle.queries.specs.Arrays.{arrayed, end_arrayed, end_trace, Info}
-use Rattle.queries.specs.declared.arrays.ArrayEnd.{ArrayEnd}
-use Rattle.queries.specs.declared.arrays.ArrayEnd.TheVariants as end
 use Rattle.queries.specs.declared.arrays.ArrayInfo.{ArrayInfo}
 use Rattle.queries.specs.Sizes.{Sizes, size_trace}
-use Rattle.queries.specs.declared.sizes.SizeRead.{SizeRead}
-use Rattle.queries.specs.declared.sizes.SizeRead.TheVariants as sized
 use Rattle.emit.specs.Walking.{method_of, plain_pointed, aimed_at, way_to, aimed_rule}
+use Rattle.queries.specs.declared.arrays.ArrayStop.{ArrayStop}
+use Rattle.queries.specs.declared.sizes.TooLong.{TooLong}
+use Rattle.queries.specs.declared.arrays.ArrayStop.TheVariants as stop
 
 -- Taking up records without opening them changes nothing of a page.
 wrote-taken : {g : Page} (k : ℕ) → Wrote g (tr [] done [] (count 0 k)) g
@@ -316,63 +255,64 @@ module _ (s : List ℕ) (d : Lent) (call : Call) (o : List ℕ) where
   h = holding call o
 
   -- An index by itself: what cannot be read is its mark.
-  pub self-bad : (i : ℕ) (r : TypeRead) (f : Refusal) → r ≡ read_near s d.near i → r ≡ Refused f → step ⨾ mark_trace f ≡ walked c t h (by_itself i)
+  pub self-bad : (i : ℕ) {r : Result TypeData Refusal} {f : Refusal} → r ≡ read_near s d.near i → r ≡ Err f → step ⨾ mark_trace f ≡ walked c t h (by_itself i)
   unfolding entry_of body after_read alone
-  self-bad i r f e g =
+  self-bad i {r} {f} e g =
       let k : t.types i ≡ bad f = read-bad s d call o i r f e g in
       ap (λ (x : Trace Refusal). step ⨾ x) (marked-is c t h f) ∙ walk-on s d call o (by_itself i) (marked f) (rw k) (rw k)
 
   -- A method's arguments.
   module _ (m : Method) (closes : Bool) where
-    pub args-hidden : (b : Bool) → b ≡ c.no_arguments → b ≡ true → writing [] ≡ ruled c t h (method_arguments c m closes)
+    pub args-hidden : {b : Bool} → b ≡ c.no_arguments → b ≡ true → writing [] ≡ ruled c t h (method_arguments c m closes)
     unfolding ruled exec method_arguments
-    args-hidden b e f = let k : c.no_arguments ≡ true = cc in rw k
+    args-hidden e f = let k : c.no_arguments ≡ true = cc in rw k
 
-    args-shown : (b : Bool) → b ≡ c.no_arguments → b ≡ false → walked c t h (list_of m closes) ≡ ruled c t h (method_arguments c m closes)
+    args-shown : {b : Bool} → b ≡ c.no_arguments → b ≡ false → walked c t h (list_of m closes) ≡ ruled c t h (method_arguments c m closes)
     unfolding ruled exec method_arguments
-    args-shown b e f = let k : c.no_arguments ≡ false = cc in rw k
+    args-shown e f = let k : c.no_arguments ≡ false = cc in rw k
 
     pub list-wrong : (x : TypeData) → OneOf no_list (tag_of the_type x)
         → tr [] (refused (ArgumentTypeNotArgumentList m.list)) [] (count 0 0) ≡ ruled c t h (method_list c t m closes (type_contents s x))
     unfolding ruled exec
     list-wrong x n = rw (list-other c s t m closes x n)
 
-    pub list_right : (x : TypeData) (p : Entries) → x ≡ type.ArgumentList p
+    pub list_right : {x : TypeData} {p : Entries} → x ≡ type.ArgumentList p
         → ruled c t h (method_list c t m closes (arguments (numbers_at s p.start p.count))) ≡ ruled c t h (method_list c t m closes (type_contents s x))
     unfolding type_contents
-    list_right x p e = rw e
+    list_right e = rw e
 
   -- What is done with a target that was read, by its kind.
-  module _ (ls : List Level) (x : TypeData) where
-    pub aimed-pointer : (m : Bool) (p : PointerType) (g : List Level) → x ≡ type.Pointer p → g ≡ level p.constant false p.mode ∷ ls
+  module _ (ls : List Level) {x : TypeData} where
+    pub aimed-pointer : (m : Bool) {p : PointerType} {g : List Level} → x ≡ type.Pointer p → g ≡ level p.constant false p.mode ∷ ls
         → walked c t h (target p.underlying.0 g) ≡ ruled c t h (aimed_rule c m ls (type_contents s x))
     unfolding ruled exec aimed aimed_again type_contents
-    aimed-pointer true p g e f = rw (e, f)
-    aimed-pointer false p g e f = rw (e, f)
+    aimed-pointer true e f = rw (e, f)
+    aimed-pointer false e f = rw (e, f)
 
-    pub aimed-modifier : (m : Bool) (p : ModifierType) (g : List Level) → m ≡ false → x ≡ type.Modifier p → g ≡ over_pointee p.constant ls
+    pub aimed-modifier : {m : Bool} {p : ModifierType} {g : List Level} → m ≡ false → x ≡ type.Modifier p → g ≡ over_pointee p.constant ls
         → walked c t h (target_of_modifier p.underlying.0 g) ≡ ruled c t h (aimed_rule c m ls (type_contents s x))
     unfolding ruled exec aimed type_contents
-    aimed-modifier m p g a e f = rw (a, e, f)
+    aimed-modifier a e f = rw (a, e, f)
 
-    pub aimed-twice : (m : Bool) (p : ModifierType) → m ≡ true → x ≡ type.Modifier p
-        → ruled c t h (pointed c ls (type_contents s (type.Modifier p))) ≡ ruled c t h (aimed_rule c m ls (type_contents s x))
+    -- The last arm is come to by a second modifier, and by what is neither pointer nor modifier.
+    pub aimed-twice : {m : Bool} {y : TypeData} {p : ModifierType} → y ≡ type.Modifier p → m ≡ true → x ≡ type.Modifier p
+        → ruled c t h (pointed c ls (type_contents s y)) ≡ ruled c t h (aimed_rule c m ls (type_contents s x))
     unfolding aimed_again type_contents
-    aimed-twice m p a e = rw (a, e)
+    aimed-twice k a e = rw (k, a, e)
 
-    pub aimed-plain : (m : Bool) → OneOf no_pointer_modifier (tag_of the_type x)
-        → ruled c t h (pointed c ls (type_contents s x)) ≡ ruled c t h (aimed_rule c m ls (type_contents s x))
-    aimed-plain m n = ap (λ (p : Rule). ruled c t h p) (sym (aimed-other c s ls m x n))
+    pub aimed-plain : (m : Bool) {y : TypeData} → y ≡ x → OneOf no_pointer_modifier (tag_of the_type x)
+        → ruled c t h (pointed c ls (type_contents s y)) ≡ ruled c t h (aimed_rule c m ls (type_contents s x))
+    aimed-plain m k n = rw k (ap (λ (p : Rule). ruled c t h p) (sym (aimed-other c s ls m x n)))
 
   module _ (n : Bool) (x : TypeData) where
-    pub modified-pointer : (p : PointerType) (w : Bool) (g q : List Level) → x ≡ type.Pointer p → w ≡ p.constant || n → q ≡ [] → g ≡ level w false p.mode ∷ q
+    pub modified-pointer : {p : PointerType} {w : Bool} {g q : List Level} → x ≡ type.Pointer p → w ≡ p.constant || n → q ≡ [] → g ≡ level w false p.mode ∷ q
         → walked c t h (target p.underlying.0 g) ≡ ruled c t h (modified_text c n (type_contents s x))
     unfolding ruled exec modified_text type_contents
-    modified-pointer p w g q e f u v = rw (e, v, u, f)
+    modified-pointer e f u v = rw (e, v, u, f)
 
-    pub modified-primitive : (p : PrimitiveType) → x ≡ type.Primitive p → writing (primitive_text c n p.code p.indirection) ≡ ruled c t h (modified_text c n (type_contents s x))
+    pub modified-primitive : {p : PrimitiveType} → x ≡ type.Primitive p → writing (primitive_text c n p.code p.indirection) ≡ ruled c t h (modified_text c n (type_contents s x))
     unfolding ruled exec modified_text type_contents
-    modified-primitive p e = rw e
+    modified-primitive e = rw e
 
     pub modified-plain : OneOf no_pointer_primitive (tag_of the_type x)
         → writing (pick n (bytes "const ") []) ⨾ ruled c t h (texted (type_text c (type_contents s x))) ≡ ruled c t h (modified_text c n (type_contents s x))
@@ -380,114 +320,117 @@ module _ (s : List ℕ) (d : Lent) (call : Call) (o : List ℕ) where
     modified-plain j = rw (modified-other c s n x j)
 
   -- The this pointer decides what follows.
-  module _ (m : Method) (closes : Bool) (list : List ℕ) (r : ThisRead) (e : r ≡ this_of (λ i. type_as_read s (read_near s d.near i)) m.this m.class) where
+  module _ (m : Method) (closes : Bool) (list : List ℕ) {r : Result (Option Bool) Refusal} (e : r ≡ this_of (λ i. type_as_read s (read_near s d.near i)) m.this m.class) where
     by-this : ruled c t h (by_this r (λ extra constant. method_text c m closes list extra constant)) ≡ ruled c t h (method_list c t m closes (arguments list))
     unfolding method_list table_in table_by
     by-this = rw e (ap (λ (p : Rule). ruled c t h p) (sym (this-is c t m (λ extra constant. method_text c m closes list extra constant))))
 
-    pub this-given : (constant shut : Bool) → r ≡ this.Given constant → shut ≡ closes && constant
+    pub this-given : (constant : Bool) {shut : Bool} → r ≡ Ok (Some constant) → shut ≡ closes && constant
         → writing (bytes "(") ⨾ ruled c t h (argument_entries c false list) ⨾ writing (bytes ")") ⨾ writing (pick shut (bytes " const") [])
         ≡ ruled c t h (method_list c t m closes (arguments list))
     unfolding by_this
-    this-given constant shut f g = given_is c t h m list closes constant shut g ∙ (rw f at by-this)
+    this-given constant {shut} f g = given_is c t h m list closes constant shut g ∙ (rw f at by-this)
 
-    pub this-extra : r ≡ this.Other
+    pub this-extra : r ≡ Ok None
         → writing (bytes "(") ⨾ walked c t h (by_itself m.this) ⨾ ruled c t h (argument_entries c true list) ⨾ writing (bytes ")")
         ≡ ruled c t h (method_list c t m closes (arguments list))
     unfolding by_this
     this-extra f = extra-is c t h m list closes ∙ (rw f at by-this)
 
-    pub this-bad : (a : Refusal) → r ≡ this.Refused a → unread_trace a ≡ ruled c t h (method_list c t m closes (arguments list))
+    pub this-bad : {a : Refusal} → r ≡ Err a → unread_trace a ≡ ruled c t h (method_list c t m closes (arguments list))
     unfolding by_this
-    this-bad a f = unread-is c t h a ∙ (rw f at by-this)
+    this-bad {a} f = unread-is c t h a ∙ (rw f at by-this)
 
   -- A type by its kind.
-  pub inner-primitive : (x : TypeData) (p : PrimitiveType) → x ≡ type.Primitive p
+  pub inner-primitive : {x : TypeData} {p : PrimitiveType} → x ≡ type.Primitive p
       → writing (primitive_text c false p.code p.indirection) ≡ ruled c t h (type_text c (type_contents s x))
   unfolding ruled exec type_text type_contents
-  inner-primitive x p e = rw e
+  inner-primitive e = rw e
 
-  pub inner-modifier : (x : TypeData) (p : ModifierType) → x ≡ type.Modifier p
+  pub inner-modifier : {x : TypeData} {p : ModifierType} → x ≡ type.Modifier p
       → walked c t h (modified p.underlying.0 p.constant) ≡ ruled c t h (type_text c (type_contents s x))
   unfolding ruled exec type_text type_contents
-  inner-modifier x p e = rw e
+  inner-modifier e = rw e
 
-  pub inner-pointer : (x : TypeData) (p : PointerType) (g q : List Level) → x ≡ type.Pointer p → q ≡ [] → g ≡ level p.constant false p.mode ∷ q
+  pub inner-pointer : {x : TypeData} {p : PointerType} {g q : List Level} → x ≡ type.Pointer p → q ≡ [] → g ≡ level p.constant false p.mode ∷ q
       → walked c t h (target p.underlying.0 g) ≡ ruled c t h (type_text c (type_contents s x))
   unfolding ruled exec type_text type_contents
-  inner-pointer x p g q e f k = rw (e, k, f)
+  inner-pointer e f k = rw (e, k, f)
 
-  pub inner-procedure : (x : TypeData) (p : ProcedureType) (v none : Bool) → x ≡ type.Procedure p → v ≡ p.constructor || eqb p.result.0 0 → none ≡ c.no_return || v
+  pub inner-procedure : {x : TypeData} {p : ProcedureType} {v none : Bool} → x ≡ type.Procedure p → v ≡ p.constructor || eqb p.result.0 0 → none ≡ c.no_return || v
       → ruled c t h (result c none p.result.0) ⨾ writing (bytes "()(") ⨾ walked c t h (by_itself p.arguments.0) ≡ ruled c t h (type_text c (type_contents s x))
   unfolding type_contents
-  inner-procedure x p v none e f g = rw e (procedure-is c t h p.result.0 p.arguments.0 p.constructor v none f g)
+  inner-procedure {p = p} {v} {none} e f g = rw e (procedure-is c t h p.result.0 p.arguments.0 p.constructor v none f g)
 
-  pub inner-method : (x : TypeData) (p : MemberFunctionType) (none : Bool) → x ≡ type.MemberFunction p → none ≡ c.no_return || p.constructor
+  pub inner-method : {x : TypeData} {p : MemberFunctionType} {none : Bool} → x ≡ type.MemberFunction p → none ≡ c.no_return || p.constructor
       → ruled c t h (result c none p.result.0) ⨾ writing (bytes "()") ⨾ ruled c t h (method_arguments c (method_of p) false) ≡ ruled c t h (type_text c (type_contents s x))
   unfolding type_contents
-  inner-method x p none e f = rw e (method-is c t h (method_of p) none f)
+  inner-method {p = p} {none} e f = rw e (method-is c t h (method_of p) none f)
 
-  pub inner-list : (x : TypeData) (p : Entries) → x ≡ type.ArgumentList p
+  pub inner-list : {x : TypeData} {p : Entries} → x ≡ type.ArgumentList p
       → ruled c t h (argument_entries c false (numbers_at s p.start p.count)) ≡ ruled c t h (type_text c (type_contents s x))
   unfolding type_text type_contents
-  inner-list x p e = rw e
+  inner-list e = rw e
 
-  pub inner-array : (x : TypeData) (p : ArrayType) → x ≡ type.Array p
+  pub inner-array : {x : TypeData} {p : ArrayType} → x ≡ type.Array p
       → walked c t h (element p.element.0 (p.size ∷ [])) ≡ ruled c t h (type_text c (type_contents s x))
   unfolding ruled exec type_text type_contents
-  inner-array x p e = rw e
+  inner-array e = rw e
 
   pub inner-named : (x : TypeData) → OneOf only_named (tag_of the_type x) → writing (record_text c s x) ≡ ruled c t h (type_text c (type_contents s x))
   unfolding ruled exec
   inner-named x n = rw (named-only c s x n)
 
   -- What is under pointers, by its kind.
-  pub helper-method : (x : TypeData) (ls : List Level) (p : MemberFunctionType) → x ≡ type.MemberFunction p
+  pub helper-method : (ls : List Level) {x : TypeData} {p : MemberFunctionType} → x ≡ type.MemberFunction p
       → ruled c t h (pointed c ls (method (method_of p))) ≡ ruled c t h (pointed c ls (type_contents s x))
   unfolding type_contents
-  helper-method x ls p e = rw e
+  helper-method ls e = rw e
 
-  pub helper-procedure : (x : TypeData) (ls : List Level) (p : ProcedureType) → x ≡ type.Procedure p
+  pub helper-procedure : (ls : List Level) {x : TypeData} {p : ProcedureType} → x ≡ type.Procedure p
       → ruled c t h (pointed c ls (procedure p.result.0 p.constructor p.arguments.0)) ≡ ruled c t h (pointed c ls (type_contents s x))
   unfolding type_contents
-  helper-procedure x ls p e = rw e
+  helper-procedure ls e = rw e
 
-  pub helper-other : (x : TypeData) (ls : List Level) → OneOf no_function (tag_of the_type x)
+  pub helper-other : (ls : List Level) (x : TypeData) → OneOf no_function (tag_of the_type x)
       → ruled c t h (plain_pointed c ls (type_contents s x)) ≡ ruled c t h (pointed c ls (type_contents s x))
-  helper-other x ls n = rw (pointed-plain c s ls x n)
+  helper-other ls x n = rw (pointed-plain c s ls x n)
 
-  -- An array: what its levels end in.
-  module _ (e size : ℕ) (r : ArrayInfo) (n : Info s d.near e size r) where
+  -- An array: what its levels come to.
+  module _ {e size : ℕ} {r : Result ArrayInfo ArrayStop} (n : Info s d.near e size r) where
     abbrev later : Trace Refusal → Trace Refusal
     later x = prefix [] [] (count 0 n.taken) x
 
-    pub array_long : r.end ≡ end.TooLong → later (tr [] (halted (long r.base.0)) [] (count 0 0)) ≡ walked c t h (element e (size ∷ []))
-    unfolding end_trace
-    array_long f = rw f at (n.is c d.ids h)
+    levels-are : {z : Result ArrayInfo ArrayStop} → r ≡ z → later (end_trace c t h s z) ≡ walked c t h (element e (size ∷ []))
+    levels-are f = ap (λ (z : Result ArrayInfo ArrayStop). later (end_trace c t h s z)) (sym f) ∙ n.is c d.ids h
 
-    pub array-bad : (a : Refusal) → r.end ≡ end.Refused a → later (unread_trace a) ≡ walked c t h (element e (size ∷ []))
+    pub array_long : (i : TypeIndex) → r ≡ Err (stop.TooLong i) → later (tr [] (halted (long i.0)) [] (count 0 0)) ≡ walked c t h (element e (size ∷ []))
     unfolding end_trace
-    array-bad a f = ap later (unread-is c t h a) ∙ (rw f at (n.is c d.ids h))
+    array_long i f = levels-are f
 
-    base-is : (x : TypeData) → r.end ≡ end.Base x → later (ruled c t h (base_text c t r.base.0 (sizes_of r.sizes) (type_contents s x))) ≡ walked c t h (element e (size ∷ []))
+    pub array-bad : (a : Refusal) → r ≡ Err (stop.Refused a) → later (unread_trace a) ≡ walked c t h (element e (size ∷ []))
     unfolding end_trace
-    base-is x f = rw f at (n.is c d.ids h)
+    array-bad a f = ap later (unread-is c t h a) ∙ levels-are f
 
-    module _ (x : TypeData) (z : SizeRead) (f : r.end ≡ end.Base x) (y : Sizes s d.near call r.base.0 0 z) where
+    base-is : {x : ArrayInfo} → r ≡ Ok x → later (ruled c t h (base_text c t x.base.0 (sizes_of x.sizes) (type_contents s x.holds))) ≡ walked c t h (element e (size ∷ []))
+    unfolding end_trace
+    base-is f = levels-are f
+
+    module _ {x : ArrayInfo} {z : Result ℕ TooLong} (f : r ≡ Ok x) (y : Sizes s d.near call x.base.0 0 z) where
       abbrev text : Rule
-      text = texted (type_text c (type_contents s x))
+      text = texted (type_text c (type_contents s x.holds))
 
-      sized-is : later (asked (size_trace z y.taken) (λ v. ruled c t h (seq text (write (brackets (value_of v) (sizes_of r.sizes)))))) ≡ walked c t h (element e (size ∷ []))
+      sized-is : later (asked (size_trace z y.taken) (λ v. ruled c t h (seq text (write (brackets (value_of v) (sizes_of x.sizes)))))) ≡ walked c t h (element e (size ∷ []))
       unfolding ruled exec base_text
-      sized-is = rw (y.is d.ids h) (base-is x f)
+      sized-is = rw (y.is d.ids h) (base-is f)
 
-      pub array-unsized : (i : ℕ) → z ≡ sized.TooLong i → later (prefix [] [] (count 0 y.taken) (tr [] (halted (long i)) [] (count 0 0))) ≡ walked c t h (element e (size ∷ []))
+      pub array-unsized : {i : TooLong} → z ≡ Err i → later (prefix [] [] (count 0 y.taken) (tr [] (halted (long i.0)) [] (count 0 0))) ≡ walked c t h (element e (size ∷ []))
       unfolding size_trace
-      array-unsized i g = let k : y.taken + 0 ≡ y.taken = omega arith in rw k (rw g at sized-is)
+      array-unsized g = let k : y.taken + 0 ≡ y.taken = omega arith in rw k (rw g at sized-is)
 
-      pub array-base : (v : ℕ) → z ≡ sized.Bytes v → later (prefix [] [] (count 0 y.taken) (ruled c t h text ⨾ writing (brackets v (sizes_of r.sizes)))) ≡ walked c t h (element e (size ∷ []))
+      pub array-base : {v : ℕ} → z ≡ Ok v → later (prefix [] [] (count 0 y.taken) (ruled c t h text ⨾ writing (brackets v (sizes_of x.sizes)))) ≡ walked c t h (element e (size ∷ []))
       unfolding ruled exec size_trace value_of ◌⨾◌
-      array-base v g = rw g at sized-is
+      array-base g = rw g at sized-is
 
 -- What opens an index in the list that is lent, where those from `left` on are open.
 module _ (s : List ℕ) (d : Lent) (call : Call) (list : List ℕ) (left : ℕ) where
@@ -498,7 +441,7 @@ module _ (s : List ℕ) (d : Lent) (call : Call) (list : List ℕ) (left : ℕ) 
   t₁ = table_in s d
 
   -- An index by itself that was read.
-  module _ {r : TypeRead} {x : TypeData} {i : ℕ} (b : List ℕ) (e : r ≡ read_near s d.near i) (g : r ≡ Good x) {p q : Pen} {l : List ℕ}
+  module _ {r : Result TypeData Refusal} {x : TypeData} {i : ℕ} (b : List ℕ) (e : r ≡ read_near s d.near i) (g : r ≡ Ok x) {p q : Pen} {l : List ℕ}
       (z : Opens p list left way.Itself i l q) (room : length list ≡ 96) (low : left ≤ 96) where
     self-entry : entry_of c₁ t₁ (by_itself i) ≡ opens (key 1 i)
     unfolding entry_of after_read
@@ -540,12 +483,12 @@ module _ (s : List ℕ) (d : Lent) (call : Call) (list : List ℕ) (left : ℕ) 
       pub aimed-stopped : idle (read_pen q).stop ≡ true → Writes left list l (page b p) (λ o. walked c₁ t₁ (holding call o) (aimed_at m i ls)) (page b q)
       aimed-stopped f = stopped-then s d call list left (aimed_at m i ls) (way_to m) i aimed-entry b way-is room low f
 
-      module _ (go : idle (read_pen q).stop ≡ false) {r : TypeRead} (y : r ≡ read_near s d.near i) where
-        pub aimed-open : {x : TypeData} {k : List ℕ} {j : Page} → r ≡ Good x
+      module _ (go : idle (read_pen q).stop ≡ false) {r : Result TypeData Refusal} (y : r ≡ read_near s d.near i) where
+        pub aimed-open : {x : TypeData} {k : List ℕ} {j : Page} → r ≡ Ok x
             → Writes (left - 1) l k (page b q) (λ o. ruled c₁ t₁ (holding call o) (aimed_rule c₁ m ls (type_contents s x))) j → Writes left list k (page b p) (λ o. walked c₁ t₁ (holding call o) (aimed_at m i ls)) j
         aimed-open f v = type-open s d call list left (aimed_at m i ls) (way_to m) i aimed-entry (aimed_rule c₁ m ls) aimed-body b way-is room low go y f v
 
-        pub aimed-bad : {f : Refusal} {j : Page} → r ≡ Refused f → Wrote (page b q) (unread_trace f) j → Writes left list l (page b p) (λ o. walked c₁ t₁ (holding call o) (aimed_at m i ls)) j
+        pub aimed-bad : {f : Refusal} {j : Page} → r ≡ Err f → Wrote (page b q) (unread_trace f) j → Writes left list l (page b p) (λ o. walked c₁ t₁ (holding call o) (aimed_at m i ls)) j
         aimed-bad f v = type-bad s d call list left (aimed_at m i ls) (way_to m) i aimed-entry (aimed_rule c₁ m ls) aimed-body b way-is room low go y f v
 
   -- Any other modifier's target.
@@ -561,12 +504,12 @@ module _ (s : List ℕ) (d : Lent) (call : Call) (list : List ℕ) (left : ℕ) 
     pub modified-stopped : idle (read_pen q).stop ≡ true → Writes left list l (page b p) (λ o. walked c₁ t₁ (holding call o) (modified i n)) (page b q)
     modified-stopped f = stopped-then s d call list left (modified i n) way.Modified i modified-entry b z room low f
 
-    module _ (go : idle (read_pen q).stop ≡ false) {r : TypeRead} (y : r ≡ read_near s d.near i) where
-      pub modified-open : {x : TypeData} {m : List ℕ} {j : Page} → r ≡ Good x
+    module _ (go : idle (read_pen q).stop ≡ false) {r : Result TypeData Refusal} (y : r ≡ read_near s d.near i) where
+      pub modified-open : {x : TypeData} {m : List ℕ} {j : Page} → r ≡ Ok x
           → Writes (left - 1) l m (page b q) (λ o. ruled c₁ t₁ (holding call o) (modified_text c₁ n (type_contents s x))) j → Writes left list m (page b p) (λ o. walked c₁ t₁ (holding call o) (modified i n)) j
       modified-open f v = type-open s d call list left (modified i n) way.Modified i modified-entry (modified_text c₁ n) modified-body b z room low go y f v
 
-      pub modified-bad : {f : Refusal} {j : Page} → r ≡ Refused f → Wrote (page b q) (unread_trace f) j → Writes left list l (page b p) (λ o. walked c₁ t₁ (holding call o) (modified i n)) j
+      pub modified-bad : {f : Refusal} {j : Page} → r ≡ Err f → Wrote (page b q) (unread_trace f) j → Writes left list l (page b p) (λ o. walked c₁ t₁ (holding call o) (modified i n)) j
       modified-bad f v = type-bad s d call list left (modified i n) way.Modified i modified-entry (modified_text c₁ n) modified-body b z room low go y f v
 
   -- A method's arguments.
@@ -579,42 +522,46 @@ module _ (s : List ℕ) (d : Lent) (call : Call) (list : List ℕ) (left : ℕ) 
     unfolding body
     list-body = refl
 
-    module _ (w : Bool) (e : w ≡ c₁.no_arguments) (g : w ≡ false) {p q : Pen} {l : List ℕ} (b : List ℕ)
+    module _ {w : Bool} (e : w ≡ c₁.no_arguments) (g : w ≡ false) {p q : Pen} {l : List ℕ} (b : List ℕ)
         (z : Opens p list left way.List m.list l q) (room : length list ≡ 96) (low : left ≤ 96) where
       pub args-stopped : idle (read_pen q).stop ≡ true → Writes left list l (page b p) (λ o. ruled c₁ t₁ (holding call o) (method_arguments c₁ m closes)) (page b q)
-      args-stopped f = writes-by (stopped-then s d call list left (list_of m closes) way.List m.list list-entry b z room low f) (args-shown s d call (drop left list) m closes w e g)
+      args-stopped f = writes-by (stopped-then s d call list left (list_of m closes) way.List m.list list-entry b z room low f) (args-shown s d call (drop left list) m closes e g)
 
-      module _ (go : idle (read_pen q).stop ≡ false) {r : TypeRead} (y : r ≡ read_near s d.near m.list) where
-        pub args-open : {x : TypeData} {k : List ℕ} {j : Page} → r ≡ Good x
+      module _ (go : idle (read_pen q).stop ≡ false) {r : Result TypeData Refusal} (y : r ≡ read_near s d.near m.list) where
+        pub args-open : {x : TypeData} {k : List ℕ} {j : Page} → r ≡ Ok x
             → Writes (left - 1) l k (page b q) (λ o. ruled c₁ t₁ (holding call o) (method_list c₁ t₁ m closes (type_contents s x))) j → Writes left list k (page b p) (λ o. ruled c₁ t₁ (holding call o) (method_arguments c₁ m closes)) j
-        args-open f v = writes-by (type-open s d call list left (list_of m closes) way.List m.list list-entry (method_list c₁ t₁ m closes) list-body b z room low go y f v) (args-shown s d call (drop left list) m closes w e g)
+        args-open f v = writes-by (type-open s d call list left (list_of m closes) way.List m.list list-entry (method_list c₁ t₁ m closes) list-body b z room low go y f v) (args-shown s d call (drop left list) m closes e g)
 
-        pub args-bad : {f : Refusal} {j : Page} → r ≡ Refused f → Wrote (page b q) (unread_trace f) j → Writes left list l (page b p) (λ o. ruled c₁ t₁ (holding call o) (method_arguments c₁ m closes)) j
-        args-bad f v = writes-by (type-bad s d call list left (list_of m closes) way.List m.list list-entry (method_list c₁ t₁ m closes) list-body b z room low go y f v) (args-shown s d call (drop left list) m closes w e g)
+        pub args-bad : {f : Refusal} {j : Page} → r ≡ Err f → Wrote (page b q) (unread_trace f) j → Writes left list l (page b p) (λ o. ruled c₁ t₁ (holding call o) (method_arguments c₁ m closes)) j
+        args-bad f v = writes-by (type-bad s d call list left (list_of m closes) way.List m.list list-entry (method_list c₁ t₁ m closes) list-body b z room low go y f v) (args-shown s d call (drop left list) m closes e g)
+
+-- Where an index is opened there is room below the others.
+pub room_below : {p q : Pen} {list l : List ℕ} {left i : ℕ} {w : Way} → Opens p list left w i l q → length list ≡ 96 → left ≤ 96 → idle (read_pen q).stop ≡ false → 0 < left
+room_below z room low go = omega (arith, (open_in z room low go).next)
 
 -- What an array counts in the measure.
-pub arrayed-low : (x : TypeData) → arrayed x ≤ 1
+pub arrayed_low : (x : TypeData) → arrayed x ≤ 1
 unfolding arrayed type_contents
-arrayed-low (type.Primitive p) = omega arith
-arrayed-low (type.Modifier m) = omega arith
-arrayed-low (type.Pointer p) = omega arith
-arrayed-low (type.Procedure p) = omega arith
-arrayed-low (type.MemberFunction m) = omega arith
-arrayed-low (type.ArgumentList e) = omega arith
-arrayed-low (type.Enumerate e) = omega arith
-arrayed-low (type.Array a) = omega arith
-arrayed-low (type.Class k) = omega arith
-arrayed-low (type.Union u) = omega arith
-arrayed-low (type.Enumeration e) = omega arith
-arrayed-low (type.Unhandled k) = omega arith
+arrayed_low (type.Primitive p) = omega arith
+arrayed_low (type.Modifier m) = omega arith
+arrayed_low (type.Pointer p) = omega arith
+arrayed_low (type.Procedure p) = omega arith
+arrayed_low (type.MemberFunction m) = omega arith
+arrayed_low (type.ArgumentList e) = omega arith
+arrayed_low (type.Enumerate e) = omega arith
+arrayed_low (type.Array a) = omega arith
+arrayed_low (type.Class k) = omega arith
+arrayed_low (type.Union u) = omega arith
+arrayed_low (type.Enumeration e) = omega arith
+arrayed_low (type.Unhandled k) = omega arith
 
-pub arrayed-is : (x : TypeData) (p : ArrayType) → x ≡ type.Array p → arrayed x ≡ 1
+pub arrayed_is : {x : TypeData} {p : ArrayType} → x ≡ type.Array p → arrayed x ≡ 1
 unfolding arrayed type_contents
-arrayed-is x p e = rw e
+arrayed_is e = rw e
 
-pub arrayed-not : (x : TypeData) (r : ArrayEnd) → r ≡ end.Base x → end_arrayed r ≡ 0 → arrayed x ≡ 0
+pub arrayed_not : {x : ArrayInfo} {r : Result ArrayInfo ArrayStop} → r ≡ Ok x → end_arrayed r ≡ 0 → arrayed x.holds ≡ 0
 unfolding end_arrayed
-arrayed-not x r e f = rw e at f
+arrayed_not e f = rw e at f
 
 -- The entries of a list from the one with a number on.
 numbers_more : (s : List ℕ) (at n : ℕ) → 0 < n → numbers_at s at n ≡ number 4 s at ∷ numbers_at s (at + 4) (n - 1)
@@ -649,50 +596,25 @@ module _ (s : List ℕ) (d : Lent) (call : Call) (o stream sep : List ℕ) (e : 
   pub record Rest (first between : Bool) (i : ℕ) (g h : Page) : Type 0 where
     pub goes : (k : Page) → Wrote g (entries_trace between (from stream e i)) k → Wrote h (entries_trace first (numbers_at stream e.start e.count)) k
 
-  pub rest_all : (first : Bool) (g : Page) → Rest first first 0 g g
-  rest_all first g = record { goes = λ k w. wrote_as (ap (entries_trace first) (from_all stream e)) w }
+module _ {s : List ℕ} {d : Lent} {call : Call} {o stream sep : List ℕ} {e : Entries} where
+  pub rest_all : {first : Bool} {g : Page} → Rest s d call o stream sep e first first 0 g g
+  rest_all {first} = record { goes = λ k w. wrote_as (ap (entries_trace s d call o stream sep e first) (from_all stream e)) w }
 
-  module _ (first between : Bool) (i : ℕ) (g h : Page) (r : Rest first between i g h) where
-    pub rest-next : (a : ℕ) (f m : Page) → i < e.count → a ≡ number 4 stream (e.start + 4 * i) → Wrote g (writing (pick between sep [])) f
-        → Wrote f (walked (settings_of call) (table_in s d) (holding call o) (by_itself a)) m → Rest first true (i + 1) m h
-    rest-next a f m l q v w =
+  module _ {first between : Bool} {i : ℕ} {g h : Page} (r : Rest s d call o stream sep e first between i g h) where
+    pub rest-next : {a : ℕ} {f m : Page} → i < e.count → a ≡ number 4 stream (e.start + 4 * i) → Wrote g (writing (pick between sep [])) f
+        → Wrote f (walked (settings_of call) (table_in s d) (holding call o) (by_itself a)) m → Rest s d call o stream sep e first true (i + 1) m h
+    rest-next {a} l q v w =
         record {
           goes = λ k z. r.goes k
               (wrote_by (v ▸ w ▸ z)
               (entries-more (settings_of call) (table_in s d) (holding call o) sep between a (from stream e (i + 1))
-              ∙ ap (entries_trace between) (rw q (sym (from_next stream e i l)))));
+              ∙ ap (entries_trace s d call o stream sep e between) (rw q (sym (from_next stream e i l)))));
         }
 
-    pub rest-none : e.count ≤ i → Wrote h (entries_trace first (numbers_at stream e.start e.count)) g
+    pub rest-none : e.count ≤ i → Wrote h (entries_trace s d call o stream sep e first (numbers_at stream e.start e.count)) g
     rest-none l =
         r.goes g
-        (wrote-same (entries_none (settings_of call) (table_in s d) (holding call o) sep between ∙ ap (entries_trace between) (sym (from-none stream e i l))))
+        (wrote-same (entries_none (settings_of call) (table_in s d) (holding call o) sep between ∙ ap (entries_trace s d call o stream sep e between) (sym (from-none stream e i l))))
 
-    pub rest-idle : idle (read_pen g.pen).stop ≡ true → Wrote h (entries_trace first (numbers_at stream e.start e.count)) g
+    pub rest-idle : idle (read_pen g.pen).stop ≡ true → Wrote h (entries_trace s d call o stream sep e first (numbers_at stream e.start e.count)) g
     rest-idle l = r.goes g (wrote-idle l)
-
-pub ruleset walks = (
-  wrote-idle,
-  wrote-same,
-  wrote_as,
-  self-bad,
-  args-hidden,
-  this-given,
-  this-extra,
-  this-bad,
-  inner-primitive,
-  inner-modifier,
-  inner-pointer,
-  inner-procedure,
-  inner-method,
-  inner-list,
-  inner-array,
-  inner-named,
-  helper-method,
-  helper-procedure,
-  helper-other,
-  result-none,
-  result-some,
-  member-ptr-is,
-  proc-ptr-is,
-)

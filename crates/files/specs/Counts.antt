@@ -2,5 +2,5 @@
 use Rattle.std.specs.Prelude.{◌≡◌, ℕ, ◌≤◌, List, length, take}
 
 -- `&xs[..n]` is in bounds and has n entries.
-abbrev pub IsPrefixLen : ℕ → List ℕ → Type 0
+abbrev pub IsPrefixLen : {A : Type 0} → ℕ → List A → Type 0
 IsPrefixLen n xs = (n ≤ length xs) × (n ≡ length (take n xs))

@@ -10,7 +10,7 @@ use std::io::{Cursor, Read, Write};
 use std::rt::{Env, Files};
 use std::{fs, io, str};
 use streams::refusal::Refusal;
-use wire::field::Field32;
+use wire::field::field_at;
 
 // Room for a path or an argument.
 pub fn buffer() -> [u8; 4096]
@@ -34,6 +34,20 @@ pub fn argument(rt: &impl Env, i: usize, room: &mut [u8]) -> Option<usize>
         Err(FillError::TooLong) => Some(0),
         Err(FillError::NotPresent) => None,
     }
+}
+
+// Hands each argument of the program, without the program's own name, to `show`.
+pub fn for_each_argument<F: Fn(&[u8]) -> io::Result<()>>(rt: &impl Env, show: F) -> io::Result<()>
+    requires { F.IsAlwaysCallable show }
+{
+    let mut name = buffer();
+    for i in 1..usize::MAX {
+        let Some(n) = argument(rt, i, &mut name) else {
+            break;
+        };
+        show(&name[..n])?;
+    }
+    Ok(())
 }
 
 // How many arguments there are, the program's own name among them.
@@ -65,7 +79,7 @@ pub fn hex(rt: &impl Print, label: &[u8], n: u32) -> io::Result<()> {
 
 // Number and detail of a refusal.
 pub fn refused(rt: &impl Print, f: Refusal) -> io::Result<()> {
-    decimal(rt, b" ", f.number() as u64)?;
+    decimal(rt, b" ", u64::from(f.number()))?;
     hex(rt, b" 0x", f.detail())
 }
 
@@ -78,23 +92,12 @@ pub fn title(rt: &impl Print, name: &[u8]) -> io::Result<()> {
 
 // A buffer is lent full of this byte, so that what a call leaves alone can be seen.
 pub fn fill(out: &mut [u8]) {
-    let mut i = 0;
-    while i < out.len() {
-        out[i] = 0xaa;
-        i += 1;
-    }
+    out.fill(0xaa);
 }
 
 // Whether all bytes from a place on are this one.
 pub fn all(out: &[u8], from: usize, byte: u8) -> bool {
-    let mut i = from;
-    while i < out.len() {
-        if out[i] != byte {
-            return false;
-        }
-        i += 1;
-    }
-    true
+    out.iter().skip(from).all(|b| *b == byte)
 }
 
 pub fn judge(rt: &impl Print, right: bool) -> io::Result<()> {
@@ -105,46 +108,35 @@ pub fn judge(rt: &impl Print, right: bool) -> io::Result<()> {
 }
 
 // A number, or a slice's length where that is less.
-pub fn within(n: usize, s: &[u8]) -> usize
+pub fn within<T>(n: usize, s: &[T]) -> usize
     ensures prefix_len { IsPrefixLen result s.now }
     ensures value { result ≡ min n (length s.now) }
 {
-    if n < s.len() { n } else { s.len() }
-}
-
-// A number, or how many entries a slice has where that is less.
-pub fn entries_within(n: usize, s: &[u32]) -> usize
-    ensures { IsPrefixLen result s.now }
-{
-    if n < s.len() { n } else { s.len() }
+    n.min(s.len())
 }
 
 // The numbers in bytes, as many as there is room for, and how many these are.
 pub fn numbers(from: &[u8], to: &mut [u32]) -> usize {
     let mut at = 0;
-    let mut n = 0;
-    while n < to.len() {
-        let Field32::Value(value) = wire::field::u32_at(from, at) else {
+    for (n, place) in to.iter_mut().enumerate() {
+        let Some(value) = field_at::<u32>(from, at) else {
             return n;
         };
-        to[n] = value;
+        *place = value;
         at = at.wrapping_add(4);
-        n += 1;
     }
-    n
+    to.len()
 }
 
 // Puts an ending behind the first bytes of a path and answers the length of both, or 0 where there is no room.
 fn join(path: &mut [u8], start: usize, ending: &[u8]) -> usize {
     let mut at = start;
-    let mut i = 0;
-    while i < ending.len() {
+    for b in ending {
         if path.len() <= at {
             return 0;
         }
-        path[at] = ending[i];
+        path[at] = *b;
         at += 1;
-        i += 1;
     }
     at
 }
@@ -233,10 +225,7 @@ pub fn load<R: Files + Eprint>(rt: &R, path: &[u8], room: &mut [u8]) -> io::Resu
     ensures read { IfOk result (λ n. IsPrefixLen n room.new) }
     ensures room_kept { length room.new ≡ length room.old }
 {
-    match load_opened(rt, path, room)? {
-        Some(n) => Ok(n),
-        None => Ok(0),
-    }
+    Ok(load_opened(rt, path, room)?.unwrap_or(0))
 }
 
 // The same of a file whose name is given in two parts.

@@ -12,11 +12,7 @@ use Rattle.rules.specs.Text.{decimal, bracket, brackets}
 use Rattle.pen.specs.Page.{writing}
 use Rattle.leaf_writers.specs.Signs.{inside}
 
--- One level, by whether its divisor is 0.
-pub bracket-none : (b n : ℕ) → n ≡ 0 → writing (bytes "[]") ≡ writing (bracket b n)
-unfolding bracket
-bracket-none b n h = rw h
-
+-- One level, whose divisor is not 0.
 pub bracket-some : (b n : ℕ) → (n ≡ 0 → ⊥) → writing (bytes "[" ++ (decimal (b / n) ++ bytes "]")) ≡ writing (bracket b n)
 unfolding bracket
 bracket-some b zero h = absurd (h refl)

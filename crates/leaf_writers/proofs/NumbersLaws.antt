@@ -2,25 +2,13 @@
 use Prim.Native.Nat.{ℕ, zero, suc, ◌+◌, ◌-◌, ◌/◌, ◌%◌, ◌≤◌, ◌<◌}
 use mathlib.Core.Path.{◌≡◌, refl, ap, sym, ◌∙◌}
 use mathlib.Core.List.{List, [], ◌∷◌, ◌++◌, append_assoc, append-nil}
-use mathlib.Core.Bool.{Bool, true, false}
-use lib.ListN.{length, take, drop, set, length-drop}
-use lib.Seq.{drop-length, set_split, drop_at, length-take-le, take_all}
+use lib.ListN.{length, take, drop, set}
+use lib.Seq.{drop-length, set_split, drop_at, length-take-le}
 use lib.Dec.{ltb}
 use native.Mathlib.Nat.{mod-eq_of_lt}
 use native.Mathlib.Omega.{arith}
-use borrow.Author.Tests.{lt-ltb, le-ltb, ltb-true, ltb-false}
-use Rattle.wire.specs.Field.{pick}
+use borrow.Author.Tests.{lt-ltb, le-ltb}
 use Rattle.rules.specs.Text.{digit, numeral}
-use Rattle.pen.specs.Page.{writing}
-
--- A byte that is a digit on both sides of ten.
-pub digit-is : (n d : ℕ) → (n < 10 → d ≡ 48 + n) → (10 ≤ n → d ≡ 87 + n) → d ≡ digit n
-unfolding digit
-digit-is n d low high = by (ltb n 10) refl
-  where
-    by : (t : Bool) → ltb n 10 ≡ t → d ≡ pick t (48 + n) (87 + n)
-    by true e = low (ltb-true n 10 e)
-    by false e = high (ltb-false n 10 e)
 
 -- A byte and what stands behind it.
 placed : (buf : List ℕ) (a d : ℕ) → a < length buf → drop a (set buf a d) ≡ d ∷ drop (suc a) buf
@@ -48,10 +36,6 @@ digits_more b (suc l) n d buf h j k e =
     rw (le-ltb n b k, m, ← e) (append_assoc (numeral b l (n / b)) (d ∷ []) (drop (suc l) buf) ∙ ap (λ (r : List ℕ). numeral b l (n / b) ++ r) (sym (placed buf l d (omega arith))))
 
 -- No digit more has room.
-pub digits-all : (b l n : ℕ) (buf : List ℕ) → l ≡ 0 → numeral b l n ++ drop l buf ≡ drop l buf
+pub digits-all : (b l n : ℕ) (buf : List ℕ) → l ≡ 0 → numeral b l n ++ drop l buf ≡ buf
 unfolding numeral
 digits-all b l n buf e = rw e refl
-
--- What is written of a buffer is all that stands from the first digit on.
-pub digits-said : (buf : List ℕ) (k r : ℕ) {w : List ℕ} → drop r buf ≡ w → length buf ≡ k → writing (take (k - r) (drop r buf)) ≡ writing w
-digits-said buf k r f e = ap writing (take_all (k - r) (drop r buf) (omega (arith, length-drop r buf)) ∙ f)

@@ -2,15 +2,12 @@
 use Prim.Native.Nat.{ℕ, zero, suc, ◌+◌, ◌<◌, ◌≤◌}
 use mathlib.Core.Path.{◌≡◌, refl, ap, sym, ◌∙◌}
 use mathlib.Core.List.{List, [], ◌∷◌, ◌++◌, append_assoc, map}
-use mathlib.Core.Bool.{Bool, true, false, not, ◌&&◌}
+use mathlib.Core.Bool.{Bool, true, false, not}
 use lib.ListN.{length, drop, get_or, drop_of_length-le}
 use lib.Seq.{drop-cons}
 use native.Mathlib.Numerals.{add-one}
-use lib.Dec.{eqb}
-use borrow.Author.Tests.{eq-eqb, ne_eqb}
 use Rattle.wire.specs.Field.{pick}
 use Rattle.wire.specs.Text.{bytes}
-use Rattle.codeview.specs.declared.record.PointerMode.{PointerMode}
 use Rattle.codeview.specs.declared.record.ClassKind.{ClassKind}
 use Rattle.codeview.specs.declared.record.ClassKind.TheVariants as kind
 use Rattle.rules.specs.Flags.{Settings}
@@ -20,13 +17,6 @@ use Rattle.pen.proofs.Laws.{ink-append, ink-nil, run-say}
 use Rattle.context.specs.declared.levels.PtrAttributes.{PtrAttributes}
 use Rattle.context.specs.Context.{level_of, level_at}
 use Rattle.leaf_writers.specs.Signs.{behind_word, class_word, const_text, spaced, level_text}
-
--- A text under a condition.
-pub text-on : (b : Bool) (s : List ℕ) → b ≡ true → writing s ≡ writing (pick b s [])
-text-on b s h = rw h
-
-pub text-off : (b : Bool) (s : List ℕ) → b ≡ false → writing [] ≡ writing (pick b s [])
-text-off b s h = rw h
 
 -- A primitive by itself, and one that is pointed to.
 pub primitive-itself : (c : Settings) (constant : Bool) (code n : ℕ) → n ≡ 0 → writing (pick constant (bytes "const ") [] ++ primitive_name code) ≡ writing (primitive_text c constant code n)
@@ -38,15 +28,6 @@ pub primitive-pointed : (c : Settings) (constant space : Bool) (code n : ℕ) �
 unfolding primitive_text
 primitive-pointed c constant space code zero e h = absurd (h refl)
 primitive-pointed c constant space code (suc n) e h = rw e
-
--- The same behind a const that is written only where nothing is pointed to.
-pub primitive-bare : (c : Settings) (constant first : Bool) (code n : ℕ) → first ≡ (eqb n 0 && constant) → n ≡ 0
-    → writing (pick first (bytes "const ") [] ++ primitive_name code) ≡ writing (primitive_text c constant code n)
-primitive-bare c constant first code n e h = rw (e, eq-eqb n 0 h) (primitive-itself c constant code n h)
-
-pub primitive-aimed : (c : Settings) (constant first space : Bool) (code n : ℕ) → first ≡ (eqb n 0 && constant) → space ≡ c.space_pointer → (n ≡ 0 → ⊥)
-    → writing (pick first (bytes "const ") [] ++ (primitive_name code ++ (pick constant (bytes " const") [] ++ (pick space (bytes " ") [] ++ bytes "*")))) ≡ writing (primitive_text c constant code n)
-primitive-aimed c constant first space code n e f h = rw (e, ne_eqb n 0 h) (primitive-pointed c constant space code n f h)
 
 -- A name alone, and behind its word.
 pub named-alone : (c : Settings) (only : Bool) (word name : List ℕ) → only ≡ c.name_only → only ≡ true → writing name ≡ writing (behind_word c word name)
@@ -64,9 +45,6 @@ word_none c only kind.Class e h = simp (sym e ∙ h)
 word_none c only kind.Struct e h = simp (sym e ∙ h)
 word_none c only kind.Interface e h = simp (sym e ∙ h)
 
-pub word_some : (c : Settings) (only : Bool) (k j : ClassKind) (w : List ℕ) → only ≡ c.name_only → only ≡ false → k ≡ j → class_word c j ≡ pick c.name_only [] w → writing w ≡ writing (class_word c k)
-word_some c only k j w e h f g = rw (f, g, ← e, h)
-
 behind-word : (w : List ℕ) (b : Bool) (name : List ℕ) → writing (pick b [] (w ++ bytes " ") ++ name) ≡ writing (pick b name (w ++ (bytes " " ++ name)))
 behind-word w true name = refl
 behind-word w false name = rw (append_assoc w (bytes " ") name)
@@ -76,40 +54,6 @@ unfolding class_word class_text worded
 class-behind c kind.Class name = behind-word (bytes "class") c.name_only name
 class-behind c kind.Struct name = behind-word (bytes "struct") c.name_only name
 class-behind c kind.Interface name = behind-word (bytes "interface") c.name_only name
-
--- The sign of a mode.
-pub sign-as : (m n : PointerMode) → m ≡ n → writing (sign n) ≡ writing (sign m)
-sign-as m n e = rw e
-
--- The const of what is pointed to.
-pub const_free : (constant free : Bool) → free ≡ true → writing (pick constant (bytes " const") []) ≡ writing (const_text constant free)
-unfolding const_text
-const_free constant free h = rw h
-
-pub const-first : (constant free : Bool) → free ≡ false → writing (pick constant (bytes "const") []) ≡ writing (const_text constant free)
-unfolding const_text
-const-first constant free h = rw h
-
--- The space before a sign.
-pub spaced-off : (space free signed pointee : Bool) → space ≡ false → false ≡ spaced space free signed pointee
-unfolding spaced
-spaced-off space free signed pointee h = rw h
-
-pub spaced-const : (space free signed pointee : Bool) → space ≡ true → pointee ≡ true → true ≡ spaced space free signed pointee
-unfolding spaced
-spaced-const space true true pointee h k = rw (h, k)
-spaced-const space true false pointee h k = rw h
-spaced-const space false true pointee h k = rw (h, k)
-spaced-const space false false pointee h k = rw (h, k)
-
-pub spaced-signed : (space free signed pointee : Bool) → space ≡ true → pointee ≡ false → signed ≡ true → false ≡ spaced space free signed pointee
-unfolding spaced
-spaced-signed space free signed pointee h k l = rw (h, k, l)
-
-pub spaced-free : (space free signed pointee : Bool) → space ≡ true → pointee ≡ false → signed ≡ false → free ≡ spaced space free signed pointee
-unfolding spaced
-spaced-free space true signed pointee h k l = rw (h, k, l)
-spaced-free space false signed pointee h k l = rw (h, k, l)
 
 -- One level.
 pub level-is : (c : Settings) (free signed space on : Bool) (l : Level) → space ≡ c.space_pointer → on ≡ spaced space free signed l.pointee

@@ -5,60 +5,50 @@ ghost use Rattle.pen.specs.Page.{page, Wrote, writing};
 ghost use Rattle.context.specs.Context.{settings_of, level_of, levels_of};
 ghost use Rattle.leaf_writers.specs.Signs.{const_text, spaced, level_text};
 
-use crate::settings::{space_pointer, text_if};
 use codeview::record::PointerMode;
-use context::flags::Call;
-use context::levels::{Levels, PtrAttributes, unpack};
+use context::flags::{Call, TypeFormatterFlags};
+use context::levels::{Levels, PtrAttributes};
 use pen::Pen;
 
+#[tactic(auto, unfolding(rules::specs::Text::sign))]
 fn emit_sign(out: &mut [u8], p: Pen, mode: PointerMode) -> Pen
     ensures { Wrote (page out.old p) (writing (sign mode)) (page out.new result) }
 {
     match mode {
         PointerMode::Pointer => pen::text(out, p, b"*"),
         PointerMode::LValueReference => pen::text(out, p, b"&"),
-        PointerMode::Member => pen::text(out, p, b"::*"),
-        PointerMode::MemberFunction => pen::text(out, p, b"::*"),
+        PointerMode::Member | PointerMode::MemberFunction => pen::text(out, p, b"::*"),
         PointerMode::RValueReference => pen::text(out, p, b"&&"),
     }
 }
 
 // The const of what is pointed to; `free` where a space may stand.
+#[tactic(auto, unfolding(crate::specs::Signs::const_text))]
 fn emit_const(out: &mut [u8], p: Pen, constant: bool, free: bool) -> Pen
     ensures { Wrote (page out.old p) (writing (const_text constant free)) (page out.new result) }
 {
     if free {
-        return text_if(out, p, constant, b" const");
+        return pen::text_if(out, p, constant, b" const");
     }
-    text_if(out, p, constant, b"const")
+    pen::text_if(out, p, constant, b"const")
 }
 
 // Whether a space stands before a sign: not behind another sign, and not where none may stand.
+#[tactic(auto, unfolding(crate::specs::Signs::spaced))]
 fn is_spaced(space: bool, free: bool, signed: bool, pointee: bool) -> bool
     ensures { result ≡ spaced space free signed pointee }
 {
-    if space {
-        if pointee {
-            return true;
-        }
-        if signed {
-            return false;
-        }
-        return free;
-    }
-    false
+    space && (pointee || (free && !signed))
 }
 
 fn emit_level(out: &mut [u8], p: Pen, call: Call, free: bool, signed: bool, l: PtrAttributes) -> Pen
     ensures { Wrote (page out.old p) (writing (level_text (settings_of call) free signed (level_of l))) (page out.new result) }
 {
-    let pointee = l.pointee;
-    let a = emit_const(out, p, pointee, free);
-    let s = is_spaced(space_pointer(call), free, signed, pointee);
-    let b = text_if(out, a, s, b" ");
-    let mode = l.mode;
-    let c = emit_sign(out, b, mode);
-    text_if(out, c, l.constant, b" const")
+    let space = call.has(TypeFormatterFlags::SPACE_BEFORE_POINTER);
+    let a = emit_const(out, p, l.pointee, free);
+    let b = pen::text_if(out, a, is_spaced(space, free, signed, l.pointee), b" ");
+    let c = emit_sign(out, b, l.mode);
+    pen::text_if(out, c, l.constant, b" const")
 }
 
 // All levels, the innermost first.
@@ -72,17 +62,14 @@ pub fn emit_attributes(
 ) -> Pen
     ensures { Wrote (page out.old p) (writing (levels (settings_of call) free signed (levels_of o))) (page out.new result) }
 {
-    let items = o.items;
     let mut q = p;
     let mut f = free;
     let mut s = signed;
-    let mut i = o.left;
-    while i < 96 {
-        let l = unpack(items[i]);
+    for i in o.left..96 {
+        let l = PtrAttributes::from(o.items[i]);
         q = emit_level(out, q, call, f, s, l);
         f = true;
         s = !l.constant;
-        i += 1;
     }
     q
 }

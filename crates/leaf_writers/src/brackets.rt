@@ -10,6 +10,7 @@ use context::levels::Dimensions;
 use pen::Pen;
 
 // How often a size is in so many bytes; nothing for the size 0.
+#[tactic(auto, unfolding(rules::specs::Text::bracket))]
 fn emit_bracket(out: &mut [u8], p: Pen, bytes: u64, size: u64) -> Pen
     ensures { Wrote (page out.old p) (writing (Text.bracket bytes size)) (page out.new result) }
 {
@@ -22,27 +23,21 @@ fn emit_bracket(out: &mut [u8], p: Pen, bytes: u64, size: u64) -> Pen
 }
 
 // The byte size of what a level's elements are: that of the next level in, or behind the last of these the size that is given.
+#[tactic(auto, unfolding(crate::specs::Signs::inside))]
 fn size_inside(items: &[u64; 32], left: usize, at: usize, size: u64) -> u64
     requires { at ≤ 32 }
     ensures { result ≡ inside items.now left size at }
 {
-    if left < at {
-        return items[at - 1];
-    }
-    size
+    if left < at { items[at - 1] } else { size }
 }
 
 // The levels of an array whose elements have so many bytes, the outermost first.
 pub fn emit_brackets(out: &mut [u8], p: Pen, o: Dimensions, size: u64) -> Pen
     ensures { Wrote (page out.old p) (writing (Text.brackets size (sizes_of o))) (page out.new result) }
 {
-    let left = o.left;
-    let items = o.items;
     let mut q = p;
-    let mut n = 32;
-    while left < n {
-        n -= 1;
-        q = emit_bracket(out, q, items[n], size_inside(&items, left, n, size));
+    for n in (o.left..32).rev() {
+        q = emit_bracket(out, q, o.items[n], size_inside(&o.items, o.left, n, size));
     }
     q
 }

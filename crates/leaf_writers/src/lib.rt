@@ -1,4 +1,4 @@
-// What is written and opens no index: numbers, marks, names and strings; what the settings of a call decide; what the writers of types share.
+// What is written and opens no index: numbers, marks, names and strings; what the writers of types share.
 #![tactic(auto)]
 
 pub mod attributes;
@@ -8,5 +8,4 @@ pub mod marks;
 pub mod named;
 pub mod names;
 pub mod numbers;
-pub mod settings;
 pub mod strings;

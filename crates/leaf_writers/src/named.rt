@@ -1,16 +1,13 @@
 // Primitives, and what has a name behind the word for its kind.
-ghost use Rattle.std.specs.Prelude.{◌≡◌};
 ghost use Rattle.utf8.specs.Utf8.{shown};
 ghost use Rattle.rules.specs.Text.{primitive_text, class_text};
 ghost use Rattle.pen.specs.Page.{page, Wrote, writing};
 ghost use Rattle.context.specs.Context.{settings_of};
 ghost use Rattle.leaf_writers.specs.Signs.{behind_word, class_word};
 
-use crate::fragments::both;
 use crate::names::{emit_kind, emit_shown};
-use crate::settings::{name_only, space_pointer, text_if};
 use codeview::record::ClassKind;
-use context::flags::Call;
+use context::flags::{Call, TypeFormatterFlags};
 use pen::Pen;
 
 // A primitive with the const of its modifier: before the name, or behind it where it is pointed to.
@@ -24,13 +21,14 @@ pub fn emit_primitive(
 ) -> Pen
     ensures { Wrote (page out.old p) (writing (primitive_text (settings_of call) constant code indirection)) (page out.new result) }
 {
-    let q = text_if(out, p, both(indirection == 0, constant), b"const ");
-    let k = emit_kind(out, q, code);
     if indirection == 0 {
-        return k;
+        let q = pen::text_if(out, p, constant, b"const ");
+        return emit_kind(out, q, code);
     }
-    let r = text_if(out, k, constant, b" const");
-    let t = text_if(out, r, space_pointer(call), b" ");
+    let k = emit_kind(out, p, code);
+    let r = pen::text_if(out, k, constant, b" const");
+    let space = call.has(TypeFormatterFlags::SPACE_BEFORE_POINTER);
+    let t = pen::text_if(out, r, space, b" ");
     pen::text(out, t, b"*")
 }
 
@@ -38,7 +36,7 @@ pub fn emit_primitive(
 pub fn emit_named(out: &mut [u8], p: Pen, call: Call, word: &[u8], name: &[u8]) -> Pen
     ensures { Wrote (page out.old p) (writing (behind_word (settings_of call) word.now (shown name.now))) (page out.new result) }
 {
-    if name_only(call) {
+    if call.has(TypeFormatterFlags::NAME_ONLY) {
         return emit_shown(out, p, name);
     }
     let q = pen::text(out, p, word);
@@ -47,16 +45,18 @@ pub fn emit_named(out: &mut [u8], p: Pen, call: Call, word: &[u8], name: &[u8]) 
 }
 
 // The word for a kind of class and a space, unless names stand alone.
+#[tactic(auto, using(context::proofs::Laws::sets_name_only), unfolding(crate::specs::Signs::class_word))]
 fn emit_word(out: &mut [u8], p: Pen, call: Call, kind: ClassKind) -> Pen
     ensures { Wrote (page out.old p) (writing (class_word (settings_of call) kind)) (page out.new result) }
 {
-    if name_only(call) {
+    let alone = call.has(TypeFormatterFlags::NAME_ONLY);
+    if alone {
         return p;
     }
     match kind {
-        ClassKind::Class => return pen::text(out, p, b"class "),
-        ClassKind::Struct => return pen::text(out, p, b"struct "),
-        ClassKind::Interface => return pen::text(out, p, b"interface "),
+        ClassKind::Class => pen::text(out, p, b"class "),
+        ClassKind::Struct => pen::text(out, p, b"struct "),
+        ClassKind::Interface => pen::text(out, p, b"interface "),
     }
 }
 

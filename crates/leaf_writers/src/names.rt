@@ -9,19 +9,12 @@ use pen::Pen;
 use wire::name::Name;
 
 // The bytes of a name that stands in a stream: the part of them that is there.
-pub fn name_of<'a>(s: &'a [u8], n: Name) -> &'a [u8]
+#[tactic(auto, unfolding(rules::specs::Record::name_at))]
+pub fn name_of(s: &[u8], n: Name) -> &[u8]
     ensures { result.now ≡ name_at s.now n }
 {
-    let start = n.start;
-    let len = n.len;
-    let end = s.len();
-    if start > end {
-        return &s[end..];
-    }
-    if len > end - start {
-        return &s[start..];
-    }
-    &s[start..start + len]
+    let rest = &s[n.start.min(s.len())..];
+    &rest[..n.len.min(rest.len())]
 }
 
 // A name of a record: each run of well-formed bytes at once, and U+FFFD for each part between them.
@@ -31,6 +24,7 @@ pub fn emit_shown(out: &mut [u8], p: Pen, name: &[u8]) -> Pen
     let len = name.len();
     let mut q = p;
     let mut at = 0;
+    // Kept: only the turn itself finds how many bytes the next one is further.
     while at < len {
         let end = utf8::run_end(name, at);
         q = pen::text(out, q, &name[at..end]);
@@ -38,7 +32,7 @@ pub fn emit_shown(out: &mut [u8], p: Pen, name: &[u8]) -> Pen
             return q;
         }
         q = pen::text(out, q, b"\xef\xbf\xbd");
-        at = end + utf8::part_at(name, end).len;
+        at = end + utf8::part_at(name, end).unwrap_or_else(|len| len);
     }
     q
 }
@@ -47,17 +41,18 @@ pub fn emit_shown(out: &mut [u8], p: Pen, name: &[u8]) -> Pen
 pub fn emit_shown_str(out: &mut [u8], p: Pen, name: &[u8]) -> Pen
     ensures { Wrote (page out.old p) (writing (function_name (shown name.now))) (page out.new result) }
 {
-    if 0 < name.len() {
-        return emit_shown(out, p, name);
+    if name.is_empty() {
+        return emit_name_str(out, p, name);
     }
-    emit_name_str(out, p, name)
+    emit_shown(out, p, name)
 }
 
 // A function's name that the caller gives: byte for byte.
+#[tactic(auto, unfolding(rules::specs::Text::function_name))]
 pub fn emit_name_str(out: &mut [u8], p: Pen, name: &[u8]) -> Pen
     ensures { Wrote (page out.old p) (writing (function_name name.now)) (page out.new result) }
 {
-    if name.len() == 0 {
+    if name.is_empty() {
         return pen::text(out, p, b"<name omitted>");
     }
     pen::text(out, p, name)
@@ -67,8 +62,5 @@ pub fn emit_name_str(out: &mut [u8], p: Pen, name: &[u8]) -> Pen
 pub fn emit_kind(out: &mut [u8], p: Pen, code: u8) -> Pen
     ensures { Wrote (page out.old p) (writing (primitive_name code)) (page out.new result) }
 {
-    let name = primitives::kind_name(code);
-    let bytes = name.bytes;
-    let len = name.len;
-    pen::text(out, p, &bytes[..len])
+    pen::text(out, p, primitives::kind_name(code))
 }

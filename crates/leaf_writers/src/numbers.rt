@@ -6,6 +6,7 @@ ghost use Rattle.pen.specs.Page.{page, Wrote, writing};
 use pen::Pen;
 
 // From ten on a digit stands 39 further: that far is `a` from the byte behind `9`.
+#[tactic(auto, unfolding(rules::specs::Text::digit))]
 fn digit(n: u64) -> u8
     requires { n < 16 }
     ensures { result ≡ Text.digit n }
@@ -19,20 +20,19 @@ fn digits(buf: &mut [u8], base: u64, n: u64) -> usize
     requires { (1 < base) × (base ≤ 16) }
     ensures { (result ≤ length buf.new) × (drop result buf.new ≡ Text.numeral base (length buf.old) n) }
 {
-    let mut at = buf.len();
     let mut rest = n;
-    while 0 < at {
-        at -= 1;
+    for at in (0..buf.len()).rev() {
         buf[at] = digit(rest % base);
         if rest < base {
             return at;
         }
-        rest = rest / base;
+        rest /= base;
     }
-    at
+    0
 }
 
 // A count in decimal at the end of 20 bytes: where it starts.
+#[tactic(auto, unfolding(rules::specs::Text::decimal))]
 pub fn decimal_in(buf: &mut [u8], n: u64) -> usize
     requires { length buf.old ≡ 20 }
     ensures { (result ≤ 20) × (drop result buf.new ≡ Text.decimal n) }
@@ -40,18 +40,27 @@ pub fn decimal_in(buf: &mut [u8], n: u64) -> usize
     digits(buf, 10, n)
 }
 
+// A number to a base, in at most so many digits.
+fn in_base<const DIGITS: usize>(out: &mut [u8], p: Pen, base: u64, n: u64) -> Pen
+    requires { (1 < base) × (base ≤ 16) × (DIGITS ≤ 20) }
+    ensures { Wrote (page out.old p) (writing (Text.numeral base DIGITS n)) (page out.new result) }
+{
+    let mut buf = [0; DIGITS];
+    let at = digits(&mut buf, base, n);
+    let all = &buf[..];
+    pen::text(out, p, &all[at..])
+}
+
+#[tactic(auto, unfolding(rules::specs::Text::hex))]
 pub fn hex(out: &mut [u8], p: Pen, n: u32) -> Pen
     ensures { Wrote (page out.old p) (writing (Text.hex n)) (page out.new result) }
 {
-    let mut buf = [0u8; 8];
-    let at = digits(&mut buf, 16, n as u64);
-    pen::text(out, p, &buf[at..])
+    in_base::<8>(out, p, 16, u64::from(n))
 }
 
+#[tactic(auto, unfolding(rules::specs::Text::decimal))]
 pub fn decimal(out: &mut [u8], p: Pen, n: u64) -> Pen
     ensures { Wrote (page out.old p) (writing (Text.decimal n)) (page out.new result) }
 {
-    let mut buf = [0u8; 20];
-    let at = decimal_in(&mut buf, n);
-    pen::text(out, p, &buf[at..])
+    in_base::<20>(out, p, 10, n)
 }

@@ -13,22 +13,16 @@ pub struct Extent {
     pub opened: u64,
 }
 
-#[derive(Clone, Copy)]
-pub enum Measure {
-    Text(Extent),
-    Refused(Refusal),
-}
-
 // The answer by the pen at the end. Outside every type a missing record is refusal 8.
-pub fn measure_of(p: Pen) -> Measure
+pub fn measure_of(p: Pen) -> Result<Extent, Refusal>
     ensures { result ≡ measured_by (read_pen p).stop p.at (read_pen p).opened }
 {
     match pen::stop_of(p) {
-        Stop::No => Measure::Text(Extent {
+        Stop::No => Ok(Extent {
             length: p.at,
             opened: pen::openings(p),
         }),
-        Stop::Missing(index) => Measure::Refused(Refusal::Missing(index)),
-        Stop::Refused(f) => Measure::Refused(f),
+        Stop::Missing(index) => Err(Refusal::Missing(index)),
+        Stop::Refused(f) => Err(f),
     }
 }

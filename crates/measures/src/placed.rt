@@ -3,12 +3,14 @@ ghost use Rattle.std.specs.Prelude.{◌≡◌};
 ghost use Rattle.rules.specs.Measure.{function_placed_measure, FunctionPlacedMeasureDemand, id_placed_measure, IdPlacedMeasureDemand, type_placed_measure, TypePlacedMeasureDemand, of_measure};
 ghost use Rattle.measures.specs.Measures.{of_measured};
 
-use crate::answer::Measure;
+use crate::answer::Extent;
 use crate::over::{function_over, id_over, refuse_place, type_over};
 use checked_calls::calls::{check_call, check_id_call};
 use checked_calls::kept::{keep_lent, keep_lent_ids};
 use codeview::index::{IdIndex, TypeIndex};
-use record_places::{PlacesCheck, check_placed};
+use codeview::lent::Lent;
+use record_places::check_placed;
+use streams::refusal::Refusal;
 
 // The measure of a function, by its name and type.
 pub fn measure_function(
@@ -18,17 +20,22 @@ pub fn measure_function(
     size: u32,
     name: &[u8],
     index: TypeIndex,
-) -> Measure
+) -> Result<Extent, Refusal>
     ensures result_value { of_measured result ≡ of_measure (function_placed_measure flags size types.now places.now name.now index.0) }
     ensures function_placed_measure_demand { FunctionPlacedMeasureDemand flags size types.now places.now name.now index.0 }
 {
     let c = check_placed(types, places);
     let check = c.check;
-    let lent = c.places;
     let bounds = keep_lent(check);
-    match lent {
-        PlacesCheck::Right => function_over(types, &bounds, places, flags, size, name, index),
-        PlacesCheck::Wrong(k) => refuse_place(check_call(&bounds, flags, size), k),
+    let lent = Lent {
+        types,
+        ids: b"",
+        bounds: &bounds,
+        places,
+    };
+    match c.places {
+        Ok(()) => function_over(&lent, flags, size, name, index),
+        Err(k) => refuse_place(check_call(&bounds, flags, size), k),
     }
 }
 
@@ -40,18 +47,23 @@ pub fn measure_id(
     flags: u32,
     size: u32,
     index: IdIndex,
-) -> Measure
+) -> Result<Extent, Refusal>
     ensures result_value { of_measured result ≡ of_measure (id_placed_measure flags size types.now ids.now places.now index.0) }
     ensures id_placed_measure_demand { IdPlacedMeasureDemand flags size types.now ids.now places.now index.0 }
 {
     let c = check_placed(types, places);
     let check = c.check;
-    let lent = c.places;
     let mut kept = [0u32; 275];
     keep_lent_ids(check, ids, &mut kept);
-    match lent {
-        PlacesCheck::Right => id_over(types, ids, &kept, places, flags, size, index),
-        PlacesCheck::Wrong(k) => refuse_place(check_id_call(&kept, flags, size), k),
+    let lent = Lent {
+        types,
+        ids,
+        bounds: &kept,
+        places,
+    };
+    match c.places {
+        Ok(()) => id_over(&lent, flags, size, index),
+        Err(k) => refuse_place(check_id_call(&kept, flags, size), k),
     }
 }
 
@@ -62,16 +74,21 @@ pub fn measure_type(
     flags: u32,
     size: u32,
     index: TypeIndex,
-) -> Measure
+) -> Result<Extent, Refusal>
     ensures result_value { of_measured result ≡ of_measure (type_placed_measure flags size types.now places.now index.0) }
     ensures type_placed_measure_demand { TypePlacedMeasureDemand flags size types.now places.now index.0 }
 {
     let c = check_placed(types, places);
     let check = c.check;
-    let lent = c.places;
     let bounds = keep_lent(check);
-    match lent {
-        PlacesCheck::Right => type_over(types, &bounds, places, flags, size, index),
-        PlacesCheck::Wrong(k) => refuse_place(check_call(&bounds, flags, size), k),
+    let lent = Lent {
+        types,
+        ids: b"",
+        bounds: &bounds,
+        places,
+    };
+    match c.places {
+        Ok(()) => type_over(&lent, flags, size, index),
+        Err(k) => refuse_place(check_call(&bounds, flags, size), k),
     }
 }

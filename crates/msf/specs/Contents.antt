@@ -1,12 +1,8 @@
 -- What a stream holds, and what `read_stream` leaves.
-use Rattle.std.specs.Prelude.{ℕ, zero, suc, ◌+◌, ◌-◌, ◌*◌, min, List, [], ◌++◌, length, take, drop, replicate}
-use Rattle.msf.specs.Damage.{◌⨾◌}
+use Rattle.std.specs.Prelude.{ℕ, zero, suc, ◌+◌, ◌-◌, ◌*◌, min, List, [], ◌++◌, length, take, drop, replicate, Result, Ok, Err}
+use Rattle.msf.specs.Damage.{Checked, ◌⨾◌}
 use Rattle.msf.specs.Superblock.{superblock_of, superblock_checked, blocks_for}
 use Rattle.msf.specs.Directory.{number_at, streams, size_of, listed, directory_checked}
-use Rattle.msf.specs.declared.StreamRead.{StreamRead}
-use Rattle.msf.specs.declared.StreamRead.TheVariants.{Bytes, Refused}
-use Rattle.msf.specs.declared.damage.Checked.{Checked}
-use Rattle.msf.specs.declared.damage.Checked.TheVariants.{Good, Damaged}
 use Rattle.msf.specs.declared.damage.Damage.{Damage}
 use Rattle.msf.specs.declared.superblock.Superblock.{Superblock}
 
@@ -25,30 +21,22 @@ stream_bytes file s number =
 unfoldable pub checked : List ℕ → Superblock → ℕ → ℕ → Checked
 checked file s number room = superblock_checked file s ⨾ directory_checked file s number room
 
--- What comes of asking for a stream.
-pub data Outcome : Type 0 where
-  read : List ℕ → Outcome
-  refused : Damage → Outcome
-
-abbrev pub outcome_of : Checked → List ℕ → Outcome
-outcome_of Good l = read l
-outcome_of (Damaged d) l = refused d
-
-unfoldable pub stream_of : List ℕ → ℕ → ℕ → Outcome
-stream_of file number room = outcome_of (checked file (superblock_of file) number room) (stream_bytes file (superblock_of file) number)
+-- What comes of asking for a stream: its bytes, or the first damage.
+unfoldable pub stream_of : List ℕ → ℕ → ℕ → Result (List ℕ) Damage
+stream_of file number room = checked file (superblock_of file) number room ⨾ Ok (stream_bytes file (superblock_of file) number)
 
 -- Bytes in front of a buffer, whose rest is as it was.
 abbrev pub in_front : List ℕ → List ℕ → List ℕ
 in_front l buf = l ++ drop (length l) buf
 
 -- The buffer with the answer: the bytes in front, or zeros.
-pub record Result : Type 0 where
+pub record Given : Type 0 where
   pub buf : List ℕ
-  pub told : StreamRead
+  pub told : Result ℕ Damage
 
-abbrev pub given : List ℕ → StreamRead → Result
+abbrev pub given : List ℕ → Result ℕ Damage → Given
 given b r = record { buf = b; told = r }
 
-unfoldable pub laid : List ℕ → Outcome → Result
-laid buf (read l) = given (in_front l buf) (Bytes (length l))
-laid buf (refused d) = given (replicate (length buf) 0) (Refused d)
+unfoldable pub laid : List ℕ → Result (List ℕ) Damage → Given
+laid buf (Ok l) = given (in_front l buf) (Ok (length l))
+laid buf (Err d) = given (replicate (length buf) 0) (Err d)

@@ -1,7 +1,5 @@
 -- Why a stream of a file is not handed out: twelve kinds of damage, each with its number and the one number that says where.
-use Rattle.std.specs.Prelude.{ℕ, Bool, true, false}
-use Rattle.msf.specs.declared.damage.Checked.{Checked}
-use Rattle.msf.specs.declared.damage.Checked.TheVariants.{Good, Damaged}
+use Rattle.std.specs.Prelude.{ℕ, Bool, true, false, Result, Ok, Err}
 use Rattle.msf.specs.declared.damage.Damage.{Damage}
 use Rattle.msf.specs.declared.damage.Damage.TheVariants.{
   Short,
@@ -48,13 +46,22 @@ place_of (StreamBlock at) = at
 place_of (NoStream at) = at
 place_of (NoRoom len) = len
 
+-- What a check comes to.
+abbrev pub Checked : Type 0
+Checked = Result (Unit {0}) Damage
+
 -- A test: what holds is good, what does not is the damage.
 abbrev pub test : Bool → Damage → Checked
-test true d = Good
-test false d = Damaged d
+test true d = Ok tt
+test false d = Err d
 
--- One check after another: the first damage is the answer.
+-- The damage at the place where a check failed.
+abbrev pub damaged : (ℕ → Damage) → Result (Unit {0}) ℕ → Checked
+damaged damage (Ok u) = Ok tt
+damaged damage (Err at) = Err (damage at)
+
+-- One step after another: the first damage is the answer.
 infixr 5 ◌⨾◌
-abbrev pub ◌⨾◌ : Checked → Checked → Checked
-◌⨾◌ Good next = next
-◌⨾◌ (Damaged d) next = Damaged d
+abbrev pub ◌⨾◌ : {A B : Type 0} → Result A Damage → Result B Damage → Result B Damage
+◌⨾◌ (Ok a) next = next
+◌⨾◌ (Err d) next = Err d

@@ -1,10 +1,8 @@
 -- The stream directory: "NumStreams; StreamSizes[NumStreams]; StreamBlocks[NumStreams][]", all numbers of four bytes.
-use Rattle.std.specs.Prelude.{ℕ, zero, suc, ◌+◌, ◌*◌, ◌/◌, ◌%◌, not, List, eqb, leb, ltb}
+use Rattle.std.specs.Prelude.{ℕ, zero, suc, ◌+◌, ◌*◌, ◌/◌, ◌%◌, not, List, eqb, leb, ltb, Ok}
 use Rattle.wire.specs.Field.{pick}
-use Rattle.msf.specs.Damage.{test, ◌⨾◌}
+use Rattle.msf.specs.Damage.{Checked, test, ◌⨾◌}
 use Rattle.msf.specs.Superblock.{word, blocks_for, inside}
-use Rattle.msf.specs.declared.damage.Checked.{Checked}
-use Rattle.msf.specs.declared.damage.Checked.TheVariants.{Good}
 use Rattle.msf.specs.declared.damage.Damage.{Damage}
 use Rattle.msf.specs.declared.damage.Damage.TheVariants.{DirectoryBlock, Directory, StreamBlock, NoStream, NoRoom}
 use Rattle.msf.specs.declared.superblock.Superblock.{Superblock}
@@ -39,7 +37,7 @@ listed file s (suc i) = listed file s i + blocks_of s.size (size_of file s i)
 
 -- Of so many numbers from the j-th on, each at its place, the first that is not that of a block inside is the damage.
 unfoldable pub all_inside : List ℕ → Superblock → (ℕ → ℕ) → (ℕ → Damage) → ℕ → ℕ → Checked
-all_inside file s at damage zero j = Good
+all_inside file s at damage zero j = Ok tt
 all_inside file s at damage (suc n) j = test (inside s (word file (at j))) (damage (at j)) ⨾ all_inside file s at damage n (j + 1)
 
 -- The blocks of the directory.

@@ -1,4 +1,4 @@
--- What inner functions ask of their callers. `read_stream` asks nothing, so that nobody needs to believe these.
+-- What a container keeps, and what inner functions ask of their callers. `read_stream` asks nothing, so that nobody needs to believe these.
 use Rattle.std.specs.Prelude.{ℕ, ◌+◌, ◌*◌, ◌/◌, ◌≤◌, ◌<◌, true, List, ◌≡◌, length}
 use Rattle.msf.specs.Superblock.{inside}
 use Rattle.msf.specs.Directory.{number_at}

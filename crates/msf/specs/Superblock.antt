@@ -1,10 +1,8 @@
 -- The superblock (LLVM, "The MSF File Format"): "At file offset 0 in an MSF file is the MSF SuperBlock".
-use Rattle.std.specs.Prelude.{ℕ, ◌+◌, ◌-◌, ◌*◌, ◌/◌, ◌%◌, Bool, ◌&&◌, ◌||◌, List, [], ◌∷◌, ◌++◌, eqb, leb, ltb, length, get_or}
+use Rattle.std.specs.Prelude.{ℕ, ◌+◌, ◌-◌, ◌*◌, ◌/◌, ◌%◌, Bool, ◌&&◌, ◌||◌, List, [], ◌∷◌, ◌++◌, eqb, leb, ltb, length, get_or, Ok}
 use Rattle.wire.specs.Field.{field}
 use Rattle.wire.specs.Text.{bytes}
-use Rattle.msf.specs.Damage.{test, ◌⨾◌}
-use Rattle.msf.specs.declared.damage.Checked.{Checked}
-use Rattle.msf.specs.declared.damage.Checked.TheVariants.{Good}
+use Rattle.msf.specs.Damage.{Checked, test, ◌⨾◌}
 use Rattle.msf.specs.declared.damage.Damage.TheVariants.{Short, Magic, BlockSize, FreeBlockMap, Cut, DirectorySize, BlockMap}
 use Rattle.msf.specs.declared.superblock.Superblock.{Superblock}
 
@@ -19,7 +17,7 @@ file_magic = bytes "Microsoft C/C++ MSF 7.00" ++ (0x0D ∷ 0x0A ∷ 0x1A ∷ 0x4
 
 -- The bytes from a place on are those of a list; the first that differs is the damage.
 unfoldable pub same_from : List ℕ → List ℕ → ℕ → Checked
-same_from [] file at = Good
+same_from [] file at = Ok tt
 same_from (b ∷ bs) file at = test (eqb (get_or file at 0) b) (Magic at) ⨾ same_from bs file (at + 1)
 
 -- The numbers behind the magic; the one at 48 is not known.

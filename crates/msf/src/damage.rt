@@ -3,7 +3,7 @@ ghost use Rattle.std.specs.Prelude.{◌≡◌};
 ghost use Rattle.msf.specs.Damage.{number_of, place_of};
 
 // With the place in the file of the number that is wrong; `Short` has the file's length and `NoRoom` the length that is needed.
-#[derive(Clone, Copy)]
+#[derive(Clone, Copy, Debug, PartialEq, Eq)]
 pub enum Damage {
     Short(usize),
     Magic(usize),
@@ -19,14 +19,8 @@ pub enum Damage {
     NoRoom(usize),
 }
 
-// What a check comes to.
-#[derive(Clone, Copy)]
-pub enum Checked {
-    Good,
-    Damaged(Damage),
-}
-
 impl Damage {
+    // Kept: these numbers are those of the C interface, and a variant with a value has none of its own.
     pub fn number(self) -> u32
         ensures { result ≡ number_of self }
     {
@@ -50,18 +44,18 @@ impl Damage {
         ensures { result ≡ place_of self }
     {
         match self {
-            Damage::Short(len) => len,
-            Damage::Magic(at) => at,
-            Damage::BlockSize(at) => at,
-            Damage::FreeBlockMap(at) => at,
-            Damage::Cut(at) => at,
-            Damage::DirectorySize(at) => at,
-            Damage::BlockMap(at) => at,
-            Damage::DirectoryBlock(at) => at,
-            Damage::Directory(at) => at,
-            Damage::StreamBlock(at) => at,
-            Damage::NoStream(at) => at,
-            Damage::NoRoom(len) => len,
+            Damage::Short(n)
+            | Damage::Magic(n)
+            | Damage::BlockSize(n)
+            | Damage::FreeBlockMap(n)
+            | Damage::Cut(n)
+            | Damage::DirectorySize(n)
+            | Damage::BlockMap(n)
+            | Damage::DirectoryBlock(n)
+            | Damage::Directory(n)
+            | Damage::StreamBlock(n)
+            | Damage::NoStream(n)
+            | Damage::NoRoom(n) => n,
         }
     }
 }

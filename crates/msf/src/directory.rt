@@ -1,152 +1,162 @@
 // The stream directory: its numbers, wherever its blocks lie, and their tests.
-ghost use Rattle.std.specs.Prelude.{◌≡◌, ◌+◌, ◌≤◌, ◌<◌};
-ghost use Rattle.msf.specs.Directory.{map_place, place, number_at, blocks_of, listed, map_checked, filled, all_inside, stream_checked, streams_checked, directory_checked};
-ghost use Rattle.msf.specs.Inner.{Sound};
-ghost use Rattle.msf.specs.declared.damage.Checked.TheVariants.{Good};
-ghost use Rattle.msf.specs.declared.damage.Damage.TheVariants.{StreamBlock};
+ghost use Rattle.std.specs.Prelude.{◌≡◌, ℕ, ◌+◌, ◌-◌, ◌*◌, ◌^◌, ◌≤◌, ◌<◌, Ok};
+ghost use Rattle.msf.specs.Directory.{map_place, place, number_at, streams, size_of, blocks_of, listed, map_checked, filled, lists_checked, stream_checked, directory_checked, all_inside};
+ghost use Rattle.msf.specs.Damage.{damaged};
+ghost use Rattle.msf.specs.declared.damage.Damage.{Damage};
 
-use crate::damage::{Checked, Damage};
-use crate::superblock::{Superblock, blocks_for, is_inside, wide, word};
+use crate::container::Container;
+use crate::damage::Damage;
+use crate::superblock::{blocks_for, word};
 
-// Where the k-th number of the block map stands.
-fn map_place(s: Superblock, k: usize) -> usize
-    requires { (s.size ≤ 32768) × (k < 8589934592) }
-    ensures { (result ≡ map_place s k) × (result < 1152921504606846976) }
-{
-    wide(s.map) * wide(s.size) + 4 * k
-}
-
-// Where the j-th number of the directory stands.
-fn place(file: &[u8], s: Superblock, j: usize) -> usize
-    requires { Sound file.now s × (j < 8589934592) }
-    ensures { (result ≡ place file.now s j) × (result < 1152921504606846976) }
-{
-    let size = wide(s.size);
-    let numbers = size / 4;
-    let block = word(file, map_place(s, j / numbers));
-    wide(block) * size + 4 * (j % numbers)
-}
-
-pub fn number_at(file: &[u8], s: Superblock, j: usize) -> u32
-    requires { Sound file.now s × (j < 8589934592) }
-    ensures { result ≡ number_at file.now s j }
-{
-    word(file, place(file, s, j))
-}
-
-fn blocks_of(size: u32, n: u32) -> usize
+#[tactic(auto, unfolding(crate::specs::Directory::blocks_of))]
+fn blocks_of(size: u32, n: u32) -> u32
     requires { 0 < size }
-    ensures { (result ≡ blocks_of size n) × (result < 8589934592) }
+    ensures { result ≡ blocks_of size n }
 {
     if n == 0xFFFF_FFFF {
-        return 0;
+        0
+    } else {
+        blocks_for(size, n)
     }
-    blocks_for(size, n)
 }
 
-// How many blocks are listed for the first `count` streams.
-pub fn listed(file: &[u8], s: Superblock, count: usize) -> usize
-    requires { Sound file.now s × (count < 1073741824) }
-    ensures { (result ≡ listed file.now s count) × (result < 9223372036854775808) }
-{
-    let mut sum: usize = 0;
-    let mut i = 0;
-    while i < count {
-        sum += blocks_of(s.size, number_at(file, s, 1 + i));
-        i += 1;
+impl Container<'_> {
+    // Where the k-th number of the block map stands.
+    #[tactic(auto, unfolding(crate::specs::Directory::map_place))]
+    fn map_place(&self, k: usize) -> usize
+        requires { k < 2 ^ 60 }
+        ensures { result ≡ map_place self.now.superblock k }
+    {
+        self.superblock.map as usize * self.superblock.size as usize + 4 * k
     }
-    sum
-}
 
-fn check_map(file: &[u8], s: Superblock) -> Checked
-    requires { Sound file.now s }
-    ensures { result ≡ map_checked file.now s }
-{
-    let count = blocks_for(s.size, s.directory);
-    let mut k = 0;
-    while k < count {
-        let at = map_place(s, k);
-        if !is_inside(s, word(file, at)) {
-            return Checked::Damaged(Damage::DirectoryBlock(at));
+    // Where the j-th number of the directory stands.
+    #[tactic(auto, unfolding(crate::specs::Directory::place))]
+    fn place(&self, j: usize) -> usize
+        ensures { result ≡ place self.now.file.now self.now.superblock j }
+    {
+        let size = self.superblock.size as usize;
+        let numbers = size / 4;
+        let block = word(self.file, self.map_place(j / numbers));
+        block as usize * size + 4 * (j % numbers)
+    }
+
+    #[tactic(auto, unfolding(crate::specs::Directory::number_at))]
+    pub fn number_at(&self, j: usize) -> u32
+        ensures { result ≡ number_at self.now.file.now self.now.superblock j }
+    {
+        word(self.file, self.place(j))
+    }
+
+    #[tactic(auto, unfolding(crate::specs::Directory::streams))]
+    pub fn streams(&self) -> u32
+        ensures { result ≡ streams self.now.file.now self.now.superblock }
+    {
+        self.number_at(0)
+    }
+
+    #[tactic(auto, unfolding(crate::specs::Directory::size_of))]
+    pub fn size_of(&self, i: u32) -> u32
+        ensures { result ≡ size_of self.now.file.now self.now.superblock i }
+    {
+        self.number_at(1 + i as usize)
+    }
+
+    // How many blocks are listed for the first `count` streams.
+    #[tactic(auto, using(crate::proofs::DirectoryLaws::listed_more), unfolding(crate::specs::Directory::listed))]
+    pub fn listed(&self, count: u32) -> usize
+        ensures value { result ≡ listed self.now.file.now self.now.superblock count }
+        ensures small { result ≤ count * 4294967295 }
+    {
+        let mut sum: usize = 0;
+        for i in 0..count {
+            sum += blocks_of(self.superblock.size, self.size_of(i)) as usize;
         }
-        k += 1;
+        sum
     }
-    Checked::Good
-}
 
-// The numbers, sizes and lists fill the directory.
-fn check_filled(file: &[u8], s: Superblock) -> Checked
-    requires { Sound file.now s }
-    ensures { result ≡ filled file.now s }
-{
-    let numbers = wide(s.directory) / 4;
-    let at = place(file, s, 0);
-    let streams = wide(word(file, at));
-    if numbers <= streams {
-        return Checked::Damaged(Damage::Directory(at));
-    }
-    if 1 + streams + listed(file, s, streams) != numbers {
-        return Checked::Damaged(Damage::Directory(at));
-    }
-    Checked::Good
-}
-
-// `count` numbers of the directory from one on are those of blocks inside.
-fn check_lists(file: &[u8], s: Superblock, first: usize, count: usize) -> Checked
-    requires { Sound file.now s × (first + count < 8589934592) }
-    ensures { result ≡ all_inside file.now s (place file.now s) StreamBlock count first }
-{
-    let end = first + count;
-    let mut j = first;
-    while j < end {
-        let at = place(file, s, j);
-        if !is_inside(s, word(file, at)) {
-            return Checked::Damaged(Damage::StreamBlock(at));
+    // The numbers from one on, each at its place, are those of blocks inside; else the place of the first that is not.
+    #[tactic(auto, using(crate::proofs::DirectoryLaws::inside_steps))]
+    fn check_blocks<P: Fn(usize) -> usize>(
+        &self,
+        first: usize,
+        end: usize,
+        place: P,
+    ) -> Result<(), usize>
+        ghost at: { ℕ → ℕ }
+        requires callable { (k : ℕ) → k < end → P.pre place k }
+        requires gives { (k r : ℕ) → k < end → P.post place k r → r ≡ at k }
+        ensures { (damage : ℕ → Damage) → damaged damage result ≡ all_inside self.now.file.now self.now.superblock at damage (end - first) first }
+    {
+        for j in first..end {
+            let at = place(j);
+            if !self.superblock.is_inside(word(self.file, at)) {
+                return Err(at);
+            }
         }
-        j += 1;
+        Ok(())
     }
-    Checked::Good
-}
 
-// The stream that is asked for is there, and there is room for it.
-fn check_stream(file: &[u8], s: Superblock, number: u32, room: usize) -> Checked
-    requires { Sound file.now s }
-    ensures { result ≡ stream_checked file.now s number room }
-{
-    if number_at(file, s, 0) <= number {
-        return Checked::Damaged(Damage::NoStream(place(file, s, 0)));
+    // The blocks of the directory.
+    #[tactic(auto, unfolding(crate::specs::Directory::map_checked))]
+    fn check_map(&self) -> Result<(), Damage>
+        ensures { result ≡ map_checked self.now.file.now self.now.superblock }
+    {
+        let count = blocks_for(self.superblock.size, self.superblock.directory);
+        self.check_blocks(0, count as usize, |k| self.map_place(k))
+            .map_err(Damage::DirectoryBlock)
     }
-    let size = number_at(file, s, 1 + wide(number));
-    if size == 0xFFFF_FFFF {
-        return Checked::Damaged(Damage::NoStream(place(file, s, 1 + wide(number))));
-    }
-    if room < wide(size) {
-        return Checked::Damaged(Damage::NoRoom(wide(size)));
-    }
-    Checked::Good
-}
 
-// The lists of every stream, of a directory that is filled, and the stream that is asked for.
-fn check_streams(file: &[u8], s: Superblock, number: u32, room: usize) -> Checked
-    requires { Sound file.now s × (filled file.now s ≡ Good) }
-    ensures { result ≡ streams_checked file.now s number room }
-{
-    let first = 1 + wide(number_at(file, s, 0));
-    match check_lists(file, s, first, wide(s.directory) / 4 - first) {
-        Checked::Damaged(d) => Checked::Damaged(d),
-        Checked::Good => check_stream(file, s, number, room),
+    // The numbers, sizes and lists fill the directory.
+    #[tactic(auto, unfolding(crate::specs::Directory::filled))]
+    fn check_filled(&self) -> Result<(), Damage>
+        ensures { result ≡ filled self.now.file.now self.now.superblock }
+    {
+        let numbers = self.superblock.directory as usize / 4;
+        let streams = self.streams();
+        if numbers <= streams as usize || 1 + streams as usize + self.listed(streams) != numbers {
+            return Err(Damage::Directory(self.place(0)));
+        }
+        Ok(())
     }
-}
 
-pub fn check_directory(file: &[u8], s: Superblock, number: u32, room: usize) -> Checked
-    requires { Sound file.now s }
-    ensures { result ≡ directory_checked file.now s number room }
-{
-    match check_map(file, s) {
-        Checked::Damaged(d) => Checked::Damaged(d),
-        Checked::Good => match check_filled(file, s) {
-            Checked::Damaged(d) => Checked::Damaged(d),
-            Checked::Good => check_streams(file, s, number, room),
-        },
+    // The lists of every stream, of a directory that is filled.
+    #[tactic(auto, using(crate::proofs::DirectoryLaws::lists_left))]
+    fn check_lists(&self) -> Result<(), Damage>
+        requires { filled self.now.file.now self.now.superblock ≡ Ok tt }
+        ensures { result ≡ lists_checked self.now.file.now self.now.superblock }
+    {
+        let first = 1 + self.streams() as usize;
+        let end = self.superblock.directory as usize / 4;
+        self.check_blocks(first, end, |j| self.place(j))
+            .map_err(Damage::StreamBlock)
+    }
+
+    // The stream that is asked for is there, and there is room for it.
+    #[tactic(auto, unfolding(crate::specs::Directory::stream_checked, crate::specs::Directory::streams, crate::specs::Directory::size_of))]
+    fn check_stream(&self, number: u32, room: usize) -> Result<(), Damage>
+        ensures { result ≡ stream_checked self.now.file.now self.now.superblock number room }
+    {
+        if self.streams() <= number {
+            return Err(Damage::NoStream(self.place(0)));
+        }
+        let size = self.size_of(number);
+        if size == 0xFFFF_FFFF {
+            return Err(Damage::NoStream(self.place(1 + number as usize)));
+        }
+        if room < size as usize {
+            return Err(Damage::NoRoom(size as usize));
+        }
+        Ok(())
+    }
+
+    #[tactic(auto, unfolding(crate::specs::Directory::directory_checked, crate::specs::Directory::streams_checked))]
+    pub fn check_directory(&self, number: u32, room: usize) -> Result<(), Damage>
+        ensures { result ≡ directory_checked self.now.file.now self.now.superblock number room }
+    {
+        self.check_map()?;
+        self.check_filled()?;
+        self.check_lists()?;
+        self.check_stream(number, room)
     }
 }

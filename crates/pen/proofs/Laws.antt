@@ -6,11 +6,13 @@ use mathlib.Core.List.{List, [], ◌∷◌, ◌++◌, append_assoc}
 use mathlib.Core.Bool.{Bool, true, false}
 use lib.ListN.{length, set, take, drop, get_or, length-set}
 use lib.Dec.{eqb, ltb}
-use lib.Seq.{take-suc, take_all, drop-drop, set_out, sets, sets-eq}
+use lib.Seq.{drop-drop, set_out, sets, sets-eq}
 use native.Mathlib.Decide.{dec_lt}
 use native.Mathlib.Numerals.{add-one}
 use native.Mathlib.Nat.{add-zero, zero-add, suc-add}
 use native.Mathlib.Omega.{arith}
+use Rattle.std.specs.Prelude.{Some, slice_get}
+use Rattle.std.proofs.lemmas.Option.{slice_get_within, get_or_from_slice_get}
 use borrow.Author.Tests.{ne_eqb, lt-ltb, le-ltb, lt-leb, le-leb}
 use Rattle.wire.specs.Field.{pick}
 use Rattle.streams.specs.declared.refusal.Refusal.{Refusal}
@@ -53,16 +55,6 @@ refusal-back (refusal.WrongPlace entry) = refl
 pub read-gone : (limit : ℕ) (f : Refusal) → read_pen (gone limit f) ≡ ended limit f
 read-gone limit f = rw (refusal-back f)
 
-pub stop-none : (p : Pen) → p.stop ≡ 0 → (read_pen p).stop ≡ No
-stop-none p e = rw e
-
-pub stop-some : (p : Pen) → (p.stop ≡ 0 → ⊥) → idle (read_pen p).stop ≡ true
-stop-some p h = rw (ne_eqb p.stop 0 h) (by (eqb p.stop 255))
-  where
-    by : (b : Bool) → idle (pick b (Missing p.detail) (Refused (refusal_of p.stop p.detail))) ≡ true
-    by true = refl
-    by false = refl
-
 -- one byte, by cases
 put-fits : (buf : List ℕ) (p : PenRead) (b : ℕ) → p.stop ≡ No → p.at < p.limit
     → put (under buf p) b ≡ under (set buf p.at b) (record { at = p.at + 1; last = b; opened = p.opened; limit = p.limit; stop = No })
@@ -71,26 +63,20 @@ put-fits buf p b h l = simp (h, lt-ltb _ _ l)
 
 pub put-stored : (buf out : List ℕ) (p q : Pen) (b : ℕ) → out ≡ set buf p.at b → Past p (p.at + 1) b q → p.stop ≡ 0 → p.at < p.limit
     → read_page (page out q) ≡ put (read_page (page buf p)) b
-put-stored buf out p q b e f h l = ap₂ under e f.is ∙ sym (put-fits buf (read_pen p) b (stop-none p h) l)
+put-stored buf out p q b e f h l = ap₂ under e f.is ∙ sym (put-fits buf (read_pen p) b (rw h) l)
 
 put_full : (buf : List ℕ) (p : PenRead) (b : ℕ) → p.stop ≡ No → p.limit ≤ p.at → put (under buf p) b ≡ under buf (ended p.limit NoRoom)
 unfolding put
 put_full buf p b h l = simp (h, le-ltb _ _ l)
-
-pub put-gone : (buf : List ℕ) (p : Pen) (b : ℕ) → p.stop ≡ 0 → p.limit ≤ p.at → read_page (page buf (gone p.limit NoRoom)) ≡ put (read_page (page buf p)) b
-put-gone buf p b h l = ap (under buf) (read-gone p.limit NoRoom) ∙ sym (put_full buf (read_pen p) b (stop-none p h) l)
 
 -- a page whose pen has stopped
 abbrev pub Halted : PageRead → Type 0
 Halted g = idle g.pen.stop ≡ true
 
 idle-keeps : {A : Type 0} (x : Stop) (a b : A) → idle x ≡ true → unless_stopped x a b ≡ b
-idle-keeps No a b h = absurd (let z : ◌≡◌ {A = ℕ} 0 1 = cc in omega arith)
+idle-keeps No a b h = absurd (cc)
 idle-keeps (Missing i) a b h = refl
 idle-keeps (Refused f) a b h = refl
-
-pub stopped-keeps : {A : Type 0} (p : Pen) (a b : A) → (p.stop ≡ 0 → ⊥) → unless_stopped (read_pen p).stop a b ≡ b
-stopped-keeps p a b h = idle-keeps (read_pen p).stop a b (stop-some p h)
 
 pub put-halted : (g : PageRead) (b : ℕ) → Halted g → put g b ≡ g
 unfolding put
@@ -157,20 +143,6 @@ ink-append (x ∷ a) g b = ink-append a (put g x) b
 pub ink-nil : (g : PageRead) → ink g [] ≡ g
 unfolding ink
 ink-nil g = refl
-
-pub ink-one : (g : PageRead) (b : ℕ) → ink g (b ∷ []) ≡ put g b
-unfolding ink
-ink-one g b = refl
-
-pub ink-more : (g : PageRead) (s : List ℕ) (i : ℕ) → i < length s → ink g (take (i + 1) s) ≡ put (ink g (take i s)) (get_or s i 0)
-ink-more g s i h = rw (add-one, take-suc s i 0, ← ink-append, ink-one)
-
--- a loop's turn that writes the next byte of a text
-pub ink-turn : (g h k : PageRead) (s : List ℕ) (i : ℕ) → h ≡ ink g (take i s) → k ≡ put h (get_or s i 0) → i < length s → k ≡ ink g (take (i + 1) s)
-ink-turn g h k s i e f l = cc (ink-more g s i l)
-
-pub ink-all : (g h : PageRead) (s : List ℕ) (i : ℕ) → h ≡ ink g (take i s) → length s ≤ i → h ≡ ink g s
-ink-all g h s i e l = rw (take_all i s l) at e
 
 finish-no-at : (x : Stop) (b : List ℕ) (at l o lim : ℕ) → let g = under b (record { at = at; last = l; opened = o; limit = lim; stop = x }) in finish g No ≡ g
 finish-no-at No b at l o lim = refl
@@ -291,22 +263,14 @@ next-tally n = by (dec_lt n 0xffff_ffff_ffff_ff00)
     by (yes h) = rw (lt-ltb n 0xffff_ffff_ffff_ff00 h, lt-ltb (n / 256) most (omega arith)) (omega arith, omega arith)
     by (no h) = rw (le-ltb n 0xffff_ffff_ffff_ff00 (omega arith), le-ltb (n / 256) most (omega arith)) (refl, refl)
 
-pub tally-room : (n : ℕ) → n < 0xffff_ffff_ffff_ff00 → n + 256 ≡ next_tally n
-unfolding next_tally
-tally-room n h = rw (lt-ltb n 0xffff_ffff_ffff_ff00 h)
-
-pub tally-full : (n : ℕ) → 0xffff_ffff_ffff_ff00 ≤ n → n ≡ next_tally n
-unfolding next_tally
-tally-full n h = rw (le-ltb n 0xffff_ffff_ffff_ff00 h)
-
 pub wrote-opened : (b : List ℕ) (p q : Pen) → idle (read_pen p).stop ≡ false → q ≡ opened_pen p → Wrote (page b p) opened (page b q)
 unfolding ink opened tallied tick opened_pen
 wrote-opened b p q a e = record { is = ap (λ (x : Pen). read_page (page b x)) e ∙ by (read_pen p).stop refl ∙ sym (run-done (read_page (page b p)) [] [] (count 1 1)) }
   where
     by : (x : Stop) → (read_pen p).stop ≡ x → read_page (page b (opened_pen p)) ≡ tick (read_page (page b p))
     by No f = rw (f, (next-tally p.tally).0, (next-tally p.tally).1)
-    by (Missing i) f = absurd (let z : ◌≡◌ {A = ℕ} 0 1 = cc in omega arith)
-    by (Refused g) f = absurd (let z : ◌≡◌ {A = ℕ} 0 1 = cc in omega arith)
+    by (Missing i) f = absurd (cc)
+    by (Refused g) f = absurd (cc)
 
 -- a pen that has not stopped, refused
 pub refused-alive : (p : Pen) (f : Refusal) → idle (read_pen p).stop ≡ false → refused_pen p f ≡ gone p.limit f
@@ -315,8 +279,8 @@ refused-alive p f h = by (read_pen p).stop h
   where
     by : (x : Stop) → idle x ≡ false → unless_stopped x (gone p.limit f) p ≡ gone p.limit f
     by No h = refl
-    by (Missing i) h = absurd (let z : ◌≡◌ {A = ℕ} 0 1 = cc in omega arith)
-    by (Refused g) h = absurd (let z : ◌≡◌ {A = ℕ} 0 1 = cc in omega arith)
+    by (Missing i) h = absurd (cc)
+    by (Refused g) h = absurd (cc)
 
 -- what could not be read inside a type
 pub wrote-unread : (b : List ℕ) (p q : Pen) (f : Refusal) → q ≡ unread_pen p f → Wrote (page b p) (unread_trace f) (page b q)
@@ -461,24 +425,24 @@ kept-tallied (suc n) g h = kept-tallied n (tick g) (kept-tick-at g.pen.stop g.bu
 caught-kept-at : (x : Stop) (g : PageRead) (u : ℕ → Trace Refusal) → g.pen.stop ≡ x → Kept g → go_on x u g ≡ g
 unfolding Kept
 caught-kept-at No g u e h = refl
-caught-kept-at (Missing i) g u e (inl h) = absurd (let z : ◌≡◌ {A = ℕ} 0 1 = cc in omega arith)
-caught-kept-at (Missing i) g u e (inr h) = absurd (let z : ◌≡◌ {A = ℕ} 0 1 = cc in omega arith)
+caught-kept-at (Missing i) g u e (inl h) = absurd (cc)
+caught-kept-at (Missing i) g u e (inr h) = absurd (cc)
 caught-kept-at (Refused f) g u e h = refl
 
 caught-missing-at : (x : Stop) (b : List ℕ) (at l o lim i : ℕ) (u : ℕ → Trace Refusal) → let g = under b (record { at = at; last = l; opened = o; limit = lim; stop = x }) in Kept g
     → go_on (finish g (Missing i)).pen.stop u (finish g (Missing i)) ≡ page_after g (u i)
 unfolding Kept
 caught-missing-at No b at l o lim i u h = refl
-caught-missing-at (Missing j) b at l o lim i u (inl h) = absurd (let z : ◌≡◌ {A = ℕ} 0 1 = cc in omega arith)
-caught-missing-at (Missing j) b at l o lim i u (inr h) = absurd (let z : ◌≡◌ {A = ℕ} 0 1 = cc in omega arith)
+caught-missing-at (Missing j) b at l o lim i u (inl h) = absurd (cc)
+caught-missing-at (Missing j) b at l o lim i u (inr h) = absurd (cc)
 caught-missing-at (Refused f) b at l o lim i u h = sym (run-halted (under b (record { at = at; last = l; opened = o; limit = lim; stop = Refused f })) (u i) refl)
 
 caught-stop-at : (x y : Stop) (b : List ℕ) (at l o lim : ℕ) (u : ℕ → Trace Refusal) → let g = under b (record { at = at; last = l; opened = o; limit = lim; stop = x }) in Kept g
     → (f : Refusal) → y ≡ Refused f → go_on (finish g y).pen.stop u (finish g y) ≡ finish g y
 unfolding Kept
 caught-stop-at No y b at l o lim u h f e = rw e
-caught-stop-at (Missing j) y b at l o lim u (inl h) f e = absurd (let z : ◌≡◌ {A = ℕ} 0 1 = cc in omega arith)
-caught-stop-at (Missing j) y b at l o lim u (inr h) f e = absurd (let z : ◌≡◌ {A = ℕ} 0 1 = cc in omega arith)
+caught-stop-at (Missing j) y b at l o lim u (inl h) f e = absurd (cc)
+caught-stop-at (Missing j) y b at l o lim u (inr h) f e = absurd (cc)
 caught-stop-at (Refused k) y b at l o lim u h f e = refl
 
 halted-as : (x : Note) → (f : Refusal) × (stop_of (halted x) ≡ Refused f)
@@ -542,9 +506,6 @@ run_length g (tr bs e ns c) = tallied-length c.opened (ink g bs) ∙ ink-length 
 pub wrote-length : {g h : Page} {t : Trace Refusal} → Wrote g t h → length h.buf ≡ length g.buf
 wrote-length {g} {h} {t} w = ap (λ (x : PageRead). length x.buf) w.is ∙ run_length (read_page g) t
 
-pub wrote-byte : {g h : Page} {b : ℕ} → read_page h ≡ put (read_page g) b → Wrote g (writing (b ∷ [])) h
-wrote-byte {g} {h} {b} e = record { is = e ∙ sym (run-say (read_page g) (b ∷ []) ∙ ink-one (read_page g) b) }
-
 -- what catches, by the first of the pen's two numbers
 pub caught-goes : {b : List ℕ} (p : Pen) {q : Pen} {u : ℕ → Trace Refusal} {k : Page} → p.stop ≡ 255 → q ≡ resumed p → Wrote (page b q) (u p.detail) k → Caught (page b p) u k
 caught-goes {b} p {q} {u} {k} e f w = record { is = rw e (rw f at w.is) }
@@ -555,13 +516,13 @@ caught-none b p {u} h = record { is = by (eqb p.stop 0) (eqb p.stop 255) (ne_eqb
     by : (x y : Bool) → y ≡ false → (g : PageRead) → g ≡ go_on (pick x No (pick y (Missing p.detail) (Refused (refusal_of p.stop p.detail)))) u g
     by true y e g = refl
     by false false e g = refl
-    by false true e g = absurd (let z : ◌≡◌ {A = ℕ} 0 1 = cc in omega arith)
+    by false true e g = absurd (cc)
 
 -- the same laws over the shut traces
 alive : (x : Stop) → idle x ≡ false → x ≡ No
 alive No e = refl
-alive (Missing i) e = absurd (let z : ◌≡◌ {A = ℕ} 0 1 = cc in omega arith)
-alive (Refused f) e = absurd (let z : ◌≡◌ {A = ℕ} 0 1 = cc in omega arith)
+alive (Missing i) e = absurd (cc)
+alive (Refused f) e = absurd (cc)
 
 infixr 30 ◌▸◌
 pub ◌▸◌ : {g h k : Page} {t u : Trace Refusal} → Wrote g t h → Wrote h u k → Wrote g (t ⨾ u) k
@@ -595,18 +556,23 @@ ink-over (b ∷ bs) buf at l o lim h k = by (dec_lt at lim) (λ d. ink-over bs (
     by (yes d) rest = rw (put-fits buf (record { at = at; last = l; opened = o; limit = lim; stop = No }) b refl d) (rest d)
     by (no d) rest = rw (put_full buf (record { at = at; last = l; opened = o; limit = lim; stop = No }) b refl (omega arith), ink-halted bs (under buf (ended lim NoRoom)) refl)
 
--- What it says that a run of n bytes has room.
-pub record Room (p : Pen) (n : ℕ) : Type 0 where
+-- A run of bytes that has room, and its last byte.
+pub record Run (p : Pen) (s : List ℕ) (b : ℕ) : Type 0 where
   pub goes : (read_pen p).stop ≡ No
-  pub fits : p.at + n ≤ p.limit
+  pub fits : p.at + length s ≤ p.limit
+  pub some : 0 < length s
+  pub last : get_or s (length s - 1) 0 ≡ b
 
-pub room-tells : (p : Pen) (n r : ℕ) → r ≡ unless_stopped (read_pen p).stop (p.limit - p.at) 0 → 0 < n → n ≤ r → Room p n
-room-tells p n r e z h = by (read_pen p).stop refl (rw e at h)
+pub run-tells : (p : Pen) (s : List ℕ) (b r : ℕ) → Some b ≡ slice_get s (length s - 1) → r ≡ unless_stopped (read_pen p).stop (p.limit - p.at) 0 → length s ≤ r → Run p s b
+run-tells p s b r f e h = by (read_pen p).stop refl (rw e at h)
   where
-    by : (x : Stop) → (read_pen p).stop ≡ x → n ≤ unless_stopped x (p.limit - p.at) 0 → Room p n
-    by No s k = record { goes = s; fits = omega arith }
-    by (Missing i) s k = absurd (omega arith)
-    by (Refused f) s k = absurd (omega arith)
+    inside : length s - 1 < length s
+    inside = slice_get_within s (length s - 1) b (sym f)
+
+    by : (x : Stop) → (read_pen p).stop ≡ x → length s ≤ unless_stopped x (p.limit - p.at) 0 → Run p s b
+    by No w k = record { goes = w; fits = omega (arith, inside); some = omega (arith, inside); last = get_or_from_slice_get s (length s - 1) b 0 (sym f) }
+    by (Missing i) w k = absurd (omega (arith, inside))
+    by (Refused g) w k = absurd (omega (arith, inside))
 
 last-at : (b : ℕ) (bs : List ℕ) (i : ℕ) → length bs ≡ suc i → last b bs ≡ get_or bs i 0
 unfolding last
@@ -616,33 +582,29 @@ last-at b (c ∷ []) (suc i) e = absurd (omega arith)
 last-at b (c ∷ d ∷ ds) zero e = absurd (omega arith)
 last-at b (c ∷ d ∷ ds) (suc i) e = last-at c (d ∷ ds) i (omega arith)
 
--- A text that has room, over a buffer in which its bytes are set.
-wrote-sets : (buf out s : List ℕ) (p q : Pen) → Room p (length s) → 0 < length s → out ≡ sets buf p.at s → Past p (p.at + length s) (get_or s (length s - 1) 0) q
-    → Wrote (page buf p) (writing s) (page out q)
-wrote-sets buf out s p q m z e f = record { is = ap₂ under e f.is ∙ sym inked }
+-- It is written where its bytes are set.
+wrote-sets : (buf out s : List ℕ) (p q : Pen) (b : ℕ) → Run p s b → out ≡ sets buf p.at s → Past p (p.at + length s) b q → Wrote (page buf p) (writing s) (page out q)
+wrote-sets buf out s p q b m e f = record { is = ap₂ under e f.is ∙ sym inked }
   where
-    inked : page_after (read_page (page buf p)) (writing s)
-        ≡ under (sets buf p.at s) (record { at = p.at + length s; last = get_or s (length s - 1) 0; opened = (read_pen p).opened; limit = p.limit; stop = No })
+    inked : page_after (read_page (page buf p)) (writing s) ≡ under (sets buf p.at s) (record { at = p.at + length s; last = b; opened = (read_pen p).opened; limit = p.limit; stop = No })
     inked =
         run-say (read_page (page buf p)) s
         ∙ ap (λ x. ink (under buf (record { at = p.at; last = (read_pen p).last; opened = (read_pen p).opened; limit = p.limit; stop = x })) s) m.goes
         ∙ ink-fits s buf p.at (read_pen p).last (read_pen p).opened p.limit m.fits
-        ∙ rw (last-at (read_pen p).last s (length s - 1) (omega arith))
+        ∙ rw (last-at (read_pen p).last s (length s - 1) (omega (arith, m.some)), m.last)
 
 -- It was copied to the pen's place.
-pub wrote-run : (buf ys s : List ℕ) (p q : Pen) (k : ℕ) → Room p (length s) → 0 < length s → p.at + length s ≤ length buf → k ≡ length s → ys ≡ s
-    → Past p (p.at + length s) (get_or s (length s - 1) 0) q → Wrote (page buf p) (writing s) (page (take p.at buf ++ (ys ++ drop k (drop p.at buf))) q)
-wrote-run buf ys s p q k m z i e f h =
-    wrote-sets buf _ s p q m z (rw (e, f, drop-drop, ← append_assoc) (sym (sets-eq s buf p.at i))) h
+pub wrote-run : (buf ys s : List ℕ) (p q : Pen) (b k : ℕ) → Run p s b → p.at + length s ≤ length buf → k ≡ length s → ys ≡ s → Past p (p.at + length s) b q
+    → Wrote (page buf p) (writing s) (page (take p.at buf ++ (ys ++ drop k (drop p.at buf))) q)
+wrote-run buf ys s p q b k m i e f h = wrote-sets buf _ s p q b m (rw (e, f, drop-drop, ← append_assoc) (sym (sets-eq s buf p.at i))) h
 
 -- Or it lies past the buffer's end, where nothing is set.
 sets-out : (s buf : List ℕ) (at : ℕ) → length buf ≤ at → sets buf at s ≡ buf
 sets-out [] buf at h = refl
 sets-out (b ∷ s) buf at h = rw (set_out buf at b h) (sets-out s buf (suc at) (omega arith))
 
-pub wrote-past : (buf s : List ℕ) (p q : Pen) → Room p (length s) → 0 < length s → length buf ≤ p.at → Past p (p.at + length s) (get_or s (length s - 1) 0) q
-    → Wrote (page buf p) (writing s) (page buf q)
-wrote-past buf s p q m z h f = wrote-sets buf buf s p q m z (sym (sets-out s buf p.at h)) f
+pub wrote-past : (buf s : List ℕ) (p q : Pen) (b : ℕ) → Run p s b → length buf ≤ p.at → Past p (p.at + length s) b q → Wrote (page buf p) (writing s) (page buf q)
+wrote-past buf s p q b m h f = wrote-sets buf buf s p q b m (sym (sets-out s buf p.at h)) f
 
 -- The count of a pen that goes on, in which there is room for it.
 counts : ℕ → ℕ → ℕ

@@ -2,15 +2,15 @@
 // Where the buffer is shorter than the pen's limit the bytes past its end are counted only.
 #![tactic(auto)]
 
-ghost use Rattle.std.specs.Prelude.{◌≡◌, [], ◌-◌, ◌/◌, ◌%◌, length, set};
+ghost use Rattle.std.specs.Prelude.{◌≡◌, [], ◌-◌, ◌/◌, ◌%◌, set};
+ghost use Rattle.wire.specs.Field.{pick};
 ghost use Rattle.interpreter.specs.Trace.{tr, refused, halted, long, count};
-ghost use Rattle.pen.specs.Page.{read_pen, page, read_page, put, unless_stopped, Wrote, last_since, resumed, refused_pen, missed_pen, unread_pen, writing, idle, unread_trace, Past, next_tally, opened_pen};
+ghost use Rattle.pen.specs.Page.{read_pen, page, read_page, put, unless_stopped, Wrote, last_since, resumed, refused_pen, missed_pen, unread_pen, writing, idle, unread_trace, Past, opened_pen};
 
 use streams::refusal::Refusal;
-use wire::bytes::copy;
 
 // How a pen has stopped.
-#[derive(Clone, Copy)]
+#[derive(Clone, Copy, PartialEq, Eq)]
 pub enum Stop {
     No,
     Missing(u32),
@@ -23,10 +23,12 @@ pub const MISSING: u32 = 255;
 #[derive(Clone, Copy)]
 pub struct Pen {
     pub at: usize,
-    // The last byte, and above it how many indexes were opened, in one number: a struct of four words without gaps is copied fast.
+    // The last byte, and above it how many indexes were opened.
+    // Kept: one number, for a struct of four words without gaps is copied fast, and a fifth word would be copied at each call of a writer (docs/DECISIONS.md).
     pub tally: u64,
     pub limit: usize,
-    // Whether it has stopped, as two numbers for the same reason: 0, the number of a refusal, or `MISSING`; then the detail.
+    // Whether it has stopped: 0, the number of a refusal, or `MISSING`; then the detail.
+    // Kept: two numbers, since an enum made each of the many copies of a pen go byte by byte (docs/DECISIONS.md).
     pub stop: u32,
     pub detail: u32,
 }
@@ -43,12 +45,10 @@ fn store(out: &mut [u8], at: usize, b: u8)
 pub fn stop_of(p: Pen) -> Stop
     ensures { result ≡ (read_pen p).stop }
 {
-    let stop = p.stop;
-    let detail = p.detail;
-    match stop {
+    match p.stop {
         0 => Stop::No,
-        255 => Stop::Missing(detail),
-        _ => Stop::Refused(Refusal::of(stop, detail)),
+        MISSING => Stop::Missing(p.detail),
+        number => Stop::Refused(Refusal::of(number, p.detail)),
     }
 }
 
@@ -56,10 +56,7 @@ pub fn stop_of(p: Pen) -> Stop
 pub fn is_idle(p: Pen) -> bool
     ensures { result ≡ idle (read_pen p).stop }
 {
-    if p.stop == 0 {
-        return false;
-    }
-    true
+    p.stop != 0
 }
 
 // A refused pen keeps nothing but its limit.
@@ -79,7 +76,7 @@ fn gone(limit: usize, f: Refusal) -> Pen
 fn with_last(tally: u64, b: u8) -> u64
     ensures { (result % 256 ≡ b) × (result / 256 ≡ tally / 256) }
 {
-    tally / 256 * 256 + (b as u64)
+    tally / 256 * 256 + u64::from(b)
 }
 
 // The pen behind a run of bytes, of which the last is b.
@@ -96,30 +93,28 @@ fn past(p: Pen, end: usize, b: u8) -> Pen
 }
 
 // One byte more; 15 where there is no room for it.
+#[tactic(auto, unfolding(crate::specs::Page::put, streams::specs::Refusal::refusal_of))]
 pub fn byte(out: &mut [u8], p: Pen, b: u8) -> Pen
     ensures { read_page (page out.new result) ≡ put (read_page (page out.old p)) b }
 {
     if p.stop != 0 {
         return p;
     }
-    let at = p.at;
-    let limit = p.limit;
-    if at < limit {
-        store(out, at, b);
-        return past(p, at + 1, b);
+    if p.at < p.limit {
+        store(out, p.at, b);
+        return past(p, p.at + 1, b);
     }
-    gone(limit, Refusal::NoRoom)
+    gone(p.limit, Refusal::NoRoom)
 }
 
 // The bytes of s, one by one.
+#[tactic(auto, unfolding(crate::specs::Page::ink))]
 fn text_by_byte(out: &mut [u8], p: Pen, s: &[u8]) -> Pen
     ensures { Wrote (page out.old p) (writing s.now) (page out.new result) }
 {
     let mut q = p;
-    let mut i = 0;
-    while i < s.len() {
-        q = byte(out, q, s[i]);
-        i += 1;
+    for &b in s {
+        q = byte(out, q, b);
     }
     q
 }
@@ -131,26 +126,21 @@ fn room(p: Pen) -> usize
     if p.stop != 0 {
         return 0;
     }
-    let at = p.at;
-    let limit = p.limit;
-    if limit <= at { 0 } else { limit - at }
+    p.limit.saturating_sub(p.at)
 }
 
 // The bytes of s, at once where all of them may be written and lie inside the buffer or all of them past its end.
 pub fn text(out: &mut [u8], p: Pen, s: &[u8]) -> Pen
     ensures { Wrote (page out.old p) (writing s.now) (page out.new result) }
 {
-    let n = s.len();
-    let at = p.at;
-    if 0 < n {
-        if n <= room(p) {
-            let end = at + n;
-            let b = s[n - 1];
+    if let Some(&b) = s.last() {
+        if s.len() <= room(p) {
+            let end = p.at + s.len();
             if end <= out.len() {
-                copy(&mut out[at..end], s);
+                out[p.at..end].copy_from_slice(s);
                 return past(p, end, b);
             }
-            if out.len() <= at {
+            if out.len() <= p.at {
                 return past(p, end, b);
             }
         }
@@ -158,26 +148,24 @@ pub fn text(out: &mut [u8], p: Pen, s: &[u8]) -> Pen
     text_by_byte(out, p, s)
 }
 
-fn next_tally(tally: u64) -> u64
-    ensures { result ≡ next_tally tally }
+// A text, or nothing.
+pub fn text_if(out: &mut [u8], p: Pen, b: bool, s: &[u8]) -> Pen
+    ensures { Wrote (page out.old p) (writing (pick b s.now [])) (page out.new result) }
 {
-    if tally < 0xffff_ffff_ffff_ff00 {
-        tally + 256
-    } else {
-        tally
+    if b {
+        return text(out, p, s);
     }
+    p
 }
 
 // One index more was opened. The count stops where its number has no room for more.
+#[tactic(auto, unfolding(crate::specs::Page::opened_pen, crate::specs::Page::next_tally))]
 pub fn opened(p: Pen) -> Pen
     ensures { result ≡ opened_pen p }
 {
     Pen {
-        at: p.at,
-        tally: next_tally(p.tally),
-        limit: p.limit,
-        stop: p.stop,
-        detail: p.detail,
+        tally: p.tally.checked_add(256).unwrap_or(p.tally),
+        ..p
     }
 }
 
@@ -189,6 +177,7 @@ pub fn openings(p: Pen) -> u64
 }
 
 // A pen that has not stopped is refused.
+#[tactic(auto, unfolding(crate::specs::Page::refused_pen))]
 pub fn stopped(p: Pen, f: Refusal) -> Pen
     ensures { result ≡ refused_pen p f }
 {
@@ -213,6 +202,7 @@ pub fn too_long(out: &[u8], p: Pen, index: u32) -> Pen
 }
 
 // An index is missing: the text that is being written ends here.
+#[tactic(auto, unfolding(crate::specs::Page::missed_pen))]
 fn missed(p: Pen, index: u32) -> Pen
     ensures { result ≡ missed_pen p index }
 {
@@ -220,15 +210,14 @@ fn missed(p: Pen, index: u32) -> Pen
         return p;
     }
     Pen {
-        at: p.at,
-        tally: p.tally,
-        limit: p.limit,
         stop: MISSING,
         detail: index,
+        ..p
     }
 }
 
 // What could not be read inside a type: a missing record ends the text, anything else is refused.
+#[tactic(auto, unfolding(crate::specs::Page::unread_pen))]
 fn unreadable(p: Pen, f: Refusal) -> Pen
     ensures { result ≡ unread_pen p f }
 {
@@ -246,11 +235,11 @@ pub fn unread(out: &[u8], p: Pen, f: Refusal) -> Pen
 }
 
 // The last byte written since a place; 0 where there is none.
+#[tactic(auto, unfolding(crate::specs::Page::last_since))]
 pub fn last_since(p: Pen, start: usize) -> u64
     ensures { result ≡ last_since (read_pen p) start }
 {
-    let at = p.at;
-    if at <= start {
+    if p.at <= start {
         return 0;
     }
     p.tally % 256
@@ -261,10 +250,8 @@ pub fn resume(p: Pen) -> Pen
     ensures { result ≡ resumed p }
 {
     Pen {
-        at: p.at,
-        tally: p.tally,
-        limit: p.limit,
         stop: 0,
         detail: 0,
+        ..p
     }
 }

@@ -1,5 +1,5 @@
 -- Sizes as the code answers them, beside the rules' reading of them. The reading of a size depends neither on the ids nor on what is held.
-use Rattle.std.specs.Prelude.{ℕ, zero, suc, ◌+◌, ◌-◌, ◌≡◌, Bool, true, false, ◌&&◌, ◌||◌, not, List, [], ◌∷◌, eqb}
+use Rattle.std.specs.Prelude.{ℕ, zero, suc, ◌+◌, ◌-◌, ◌≡◌, Bool, true, false, ◌&&◌, ◌||◌, not, List, [], ◌∷◌, eqb, Option, unwrap_or, Result, Ok, Err}
 use Rattle.wire.specs.Field.{pick, field}
 use Rattle.streams.specs.declared.refusal.Refusal.{Refusal}
 use Rattle.streams.specs.Bounds.{stream_in}
@@ -9,39 +9,27 @@ use Rattle.streams.specs.declared.stream.Cursor.{Cursor}
 use Rattle.codeview.specs.Record.{bit}
 use Rattle.codeview.specs.Read.{type_from}
 use Rattle.codeview.specs.declared.record.TypeData.{TypeData}
-use Rattle.codeview.specs.declared.record.TypeRead.{TypeRead}
-use Rattle.codeview.specs.declared.record.TypeRead.TheVariants.{Good}
 use Rattle.interpreter.specs.Trace.{long, done, halted, count, Trace, tr, Held}
 use Rattle.rules.specs.Flags.{Settings}
-use Rattle.rules.specs.Record.{type_contents, type_as_read}
+use Rattle.rules.specs.Record.{type_as_read}
 use Rattle.rules.specs.Places.{Near, beside, table_in}
 use Rattle.rules.specs.Text.{same_bytes}
 use Rattle.rules.specs.Task.{size_of}
-use Rattle.rules.specs.Sizes.{full_or, full_size, layout_size, record_size}
-use Rattle.rules.specs.Opening.{walked, ruled}
+use Rattle.rules.specs.Sizes.{full_or, full_size, layout_size}
+use Rattle.rules.specs.Opening.{walked}
 use Rattle.context.specs.Context.{settings_of}
 use Rattle.context.specs.declared.flags.Call.{Call}
-use Rattle.queries.specs.declared.sizes.SizeRead.{SizeRead}
-use Rattle.queries.specs.declared.sizes.SizeRead.TheVariants.{Bytes, TooLong}
-use Rattle.queries.specs.declared.scan.FullRead.{FullRead}
-use Rattle.queries.specs.declared.scan.FullRead.TheVariants.{Full, Other}
+use Rattle.queries.specs.declared.sizes.TooLong.{TooLong}
 
 -- The trace of an answer, so many indexes taken up: a size is one number, and a chain that is too long stops at an index.
-unfoldable pub size_trace : SizeRead → ℕ → Trace Refusal
-size_trace (Bytes v) k = tr (v ∷ []) done [] (count 0 k)
-size_trace (TooLong i) k = tr [] (halted (long i)) [] (count 0 k)
+unfoldable pub size_trace : Result ℕ TooLong → ℕ → Trace Refusal
+size_trace (Ok v) k = tr (v ∷ []) done [] (count 0 k)
+size_trace (Err e) k = tr [] (halted (long e.0)) [] (count 0 k)
 
 -- The size of an index that comes after so many records of a chain.
-pub record Sizes (types : List ℕ) (v : Near) (call : Call) (i n : ℕ) (r : SizeRead) : Type 0 where
+pub record Sizes (types : List ℕ) (v : Near) (call : Call) (i n : ℕ) (r : Result ℕ TooLong) : Type 0 where
   pub taken : ℕ
   pub is : (ids : List ℕ) (h : Held) → size_trace r taken ≡ walked (settings_of call) (table_in types (beside ids v)) h (size_of i n)
-
--- The size of the record that was read for it.
-pub record DataSizes (types : List ℕ) (v : Near) (call : Call) (i n : ℕ) (t : TypeData) (r : SizeRead) : Type 0 where
-  pub taken : ℕ
-  pub is : (ids : List ℕ) (h : Held)
-      → size_trace r taken
-      ≡ ruled (settings_of call) (table_in types (beside ids v)) h (record_size (settings_of call) (table_in types (beside ids v)) i n (type_contents types t))
 
 -- The size of a class or union, whatever name it shows.
 pub record LayoutSize (types : List ℕ) (v : Near) (call : Call) (i : ℕ) (forward : Bool) (size : ℕ) (match : List ℕ) (r : ℕ) : Type 0 where
@@ -56,18 +44,11 @@ abbrev pub FullSize : List ℕ → Near → ℕ → List ℕ → ℕ → ℕ →
 FullSize types v i name own r = FullFrom types v (i + 1) name own r
 
 -- What one record says of it: a size, or that the others decide.
-unfoldable pub or_else : FullRead → ℕ → ℕ
-or_else (Full v) other = v
-or_else Other other = other
+pub record FullLayout (forward : Bool) (size : ℕ) (match name : List ℕ) (r : Option ℕ) : Type 0 where
+  pub is : (other : ℕ) → unwrap_or r other ≡ pick (not forward && same_bytes match name) size other
 
-pub record FullLayout (forward : Bool) (size : ℕ) (match name : List ℕ) (r : FullRead) : Type 0 where
-  pub is : (other : ℕ) → or_else r other ≡ pick (not forward && same_bytes match name) size other
-
-pub record FullOf (types : List ℕ) (t : TypeRead) (name : List ℕ) (r : FullRead) : Type 0 where
-  pub is : (other : ℕ) → or_else r other ≡ full_or (type_as_read types t) name other
-
-abbrev pub FullData : List ℕ → TypeData → List ℕ → FullRead → Type 0
-FullData types t name r = FullOf types (Good t) name r
+pub record FullOf (types : List ℕ) (t : Result TypeData Refusal) (name : List ℕ) (r : Option ℕ) : Type 0 where
+  pub is : (other : ℕ) → unwrap_or r other ≡ full_or (type_as_read types t) name other
 
 -- The kinds of a class, struct, union and interface; and whether the head of the record at a place shows that it is none of these, or property bit 7,
 -- which marks a forward reference. A head that reaches past the end shows nothing.
@@ -86,5 +67,5 @@ full_run types t from zero i name other = other
 full_run types t from (suc n) i name other = full_or (type_as_read types (type_from types t from i)) name (full_run types t from n (i + 1) name other)
 
 -- What those from an index up to another say.
-pub record FullBetween (types : List ℕ) (t : Stream) (from : Cursor) (i stop : ℕ) (name : List ℕ) (r : FullRead) : Type 0 where
-  pub is : (other : ℕ) → or_else r other ≡ full_run types t from (stop - i) i name other
+pub record FullBetween (types : List ℕ) (t : Stream) (from : Cursor) (i stop : ℕ) (name : List ℕ) (r : Option ℕ) : Type 0 where
+  pub is : (other : ℕ) → unwrap_or r other ≡ full_run types t from (stop - i) i name other

@@ -1,74 +1,61 @@
 // The levels of an array: the byte size of each, and what the innermost holds.
-ghost use Rattle.rules.specs.Places.{near};
+ghost use Rattle.std.specs.Prelude.{◌≡◌};
+ghost use Rattle.rules.specs.Places.{near_in};
 ghost use Rattle.queries.specs.Arrays.{Info};
+ghost use Rattle.queries.specs.declared.arrays.ArrayStop.TheVariants.{Refused};
 
 use codeview::index::TypeIndex;
-use codeview::record::{TypeData, TypeRead};
-use codeview::types::type_at;
+use codeview::lent::Lent;
+use codeview::record::TypeData;
 use context::levels::Dimensions;
 use streams::refusal::Refusal;
 
-// How the levels of an array end: at a base, at a 33rd level, or at a record that could not be read.
-#[derive(Clone, Copy)]
-pub enum ArrayEnd {
-    Base(TypeData),
-    TooLong,
+// Why the levels of an array have no base: there is a 33rd at an index, or a record could not be read.
+#[derive(Clone, Copy, Debug, PartialEq, Eq)]
+pub enum ArrayStop {
+    TooLong(TypeIndex),
     Refused(Refusal),
 }
 
-// The byte sizes of the levels, the index behind the last of them, and what that is. (An enum cannot hold an array, so the sizes stand beside it.)
+impl From<Refusal> for ArrayStop {
+    ghost from_gives = { λ f stop. stop ≡ Refused f };
+
+    fn from(f: Refusal) -> ArrayStop {
+        ArrayStop::Refused(f)
+    }
+}
+
+// The byte sizes of the levels, the index behind the last of them, and what that is.
 #[derive(Clone, Copy)]
 pub struct ArrayInfo {
     pub sizes: Dimensions,
     pub base: TypeIndex,
-    pub end: ArrayEnd,
+    pub holds: TypeData,
 }
 
 // One loop and no recursion, so that the stack stays small.
-pub fn get_array_info(
-    types: &[u8],
-    bounds: &[u32],
-    places: &[u32],
-    element: TypeIndex,
-    size: u64,
-) -> ArrayInfo
-    ensures { Info types.now (near bounds.now places.now) element.0 size result }
+pub fn get_array_info(lent: &Lent, element: TypeIndex, size: u64) -> Result<ArrayInfo, ArrayStop>
+    ensures { Info lent.now.types.now (near_in lent.now) element.0 size result }
 {
+    // Kept: a stack of fixed memory with the place of its newest, since nothing may be allocated.
     let mut items: [u64; 32] = [0; 32];
     let mut left: usize = 31;
     items[31] = size;
     let mut base = element;
     loop {
-        match type_at(types, bounds, places, base) {
-            TypeRead::Good(t) => {
-                let TypeData::Array(a) = t else {
-                    let end = ArrayEnd::Base(t);
-                    return ArrayInfo {
-                        sizes: Dimensions { items, left },
-                        base,
-                        end,
-                    };
-                };
-                if left == 0 {
-                    let end = ArrayEnd::TooLong;
-                    return ArrayInfo {
-                        sizes: Dimensions { items, left },
-                        base,
-                        end,
-                    };
-                }
-                left -= 1;
-                items[left] = a.size;
-                base = a.element;
-            }
-            TypeRead::Refused(f) => {
-                let end = ArrayEnd::Refused(f);
-                return ArrayInfo {
-                    sizes: Dimensions { items, left },
-                    base,
-                    end,
-                };
-            }
+        let t = lent.type_at(base)?;
+        let TypeData::Array(a) = t else {
+            return Ok(ArrayInfo {
+                sizes: Dimensions { items, left },
+                base,
+                holds: t,
+            });
+        };
+        if left == 0 {
+            return Err(ArrayStop::TooLong(base));
         }
+        left -= 1;
+        items[left] = a.size;
+        base = a.element;
     }
 }

@@ -1,117 +1,66 @@
 // The sizes of types: one record after another of a chain, at most 32, and the size of a forward reference.
 ghost use Rattle.std.specs.Prelude.{◌≡◌, eqb};
 ghost use Rattle.wire.specs.Field.{pick};
-ghost use Rattle.rules.specs.Places.{near};
+ghost use Rattle.rules.specs.Places.{near_in};
 ghost use Rattle.rules.specs.Text.{primitive_size};
 ghost use Rattle.rules.specs.Record.{match_name};
+ghost use Rattle.context.specs.declared.flags.Call.{Call};
 ghost use Rattle.queries.specs.Sizes.{Sizes, LayoutSize};
 
-use crate::scan::{get_size_for_forward_reference, match_name};
+use crate::scan::{Layout, get_size_for_forward_reference, match_name};
 use codeview::index::TypeIndex;
-use codeview::record::{ClassType, PrimitiveType, TypeData, TypeRead, UnionType};
-use codeview::types::type_at;
+use codeview::lent::Lent;
+use codeview::record::{PrimitiveType, TypeData};
 use context::flags::Call;
 
-// A size, or the index of the record that is one too many of a chain.
-#[derive(Clone, Copy)]
-pub enum SizeRead {
-    Bytes(u64),
-    TooLong(u32),
-}
+// The index of the record that is one too many of a chain.
+#[derive(Clone, Copy, Debug, PartialEq, Eq)]
+pub struct TooLong(pub u32);
 
+#[tactic(auto, unfolding(rules::specs::Text::primitive_size))]
 fn get_primitive_size(call: Call, p: PrimitiveType) -> u64
     ensures { result ≡ pick (eqb p.indirection 0) (primitive_size p.code) call.size }
 {
     if p.indirection == 0 {
-        return primitives::primitive_size(p.code) as u64;
+        return u64::from(primitives::primitive_size(p.code));
     }
-    call.size as u64
+    u64::from(call.size)
 }
 
-// A class, interface or struct: a forward reference has the size of the full record.
-fn get_class_size(
-    types: &[u8],
-    bounds: &[u32],
-    places: &[u32],
-    call: Call,
-    index: TypeIndex,
-    c: ClassType,
-) -> u64
-    ensures { LayoutSize types.now (near bounds.now places.now) call index.0 c.forward c.size (match_name types.now c.name c.unique) result }
+// A forward reference has the size of the full record, any other class or union its own.
+#[tactic(auto, unfolding(rules::specs::Sizes::layout_size, rules::specs::Places::table_in, rules::specs::Places::table_by))]
+fn get_layout_size(lent: &Lent, index: TypeIndex, l: Layout) -> u64
+    ensures { (call : Call) → LayoutSize lent.now.types.now (near_in lent.now) call index.0 l.forward l.size (match_name lent.now.types.now l.name l.unique) result }
 {
-    if c.forward {
-        let name = c.name;
-        let unique = c.unique;
-        let matched = match_name(types, name, unique);
-        return get_size_for_forward_reference(types, bounds, places, index, matched, c.size);
+    if l.forward {
+        return get_size_for_forward_reference(
+            lent,
+            index,
+            match_name(lent.types, l.name, l.unique),
+            l.size,
+        );
     }
-    c.size
-}
-
-// The same of a union.
-fn get_union_size(
-    types: &[u8],
-    bounds: &[u32],
-    places: &[u32],
-    call: Call,
-    index: TypeIndex,
-    c: UnionType,
-) -> u64
-    ensures { LayoutSize types.now (near bounds.now places.now) call index.0 c.forward c.size (match_name types.now c.name c.unique) result }
-{
-    if c.forward {
-        let name = c.name;
-        let unique = c.unique;
-        let matched = match_name(types, name, unique);
-        return get_size_for_forward_reference(types, bounds, places, index, matched, c.size);
-    }
-    c.size
+    l.size
 }
 
 // The size of a type that comes after `n` records of a chain. What cannot be read has the size 0; a primitive does not count.
-pub fn get_type_size(
-    types: &[u8],
-    bounds: &[u32],
-    places: &[u32],
-    call: Call,
-    index: TypeIndex,
-    n: u32,
-) -> SizeRead
-    ensures { Sizes types.now (near bounds.now places.now) call index.0 n result }
+pub fn get_type_size(lent: &Lent, call: Call, index: TypeIndex, n: u32) -> Result<u64, TooLong>
+    ensures { Sizes lent.now.types.now (near_in lent.now) call index.0 n result }
 {
-    let TypeRead::Good(t) = type_at(types, bounds, places, index) else {
-        return SizeRead::Bytes(0);
+    let Ok(t) = lent.type_at(index) else {
+        return Ok(0);
     };
-    if let TypeData::Primitive(p) = t {
-        return SizeRead::Bytes(get_primitive_size(call, p));
-    }
-    if 32 <= n {
-        return SizeRead::TooLong(index.0);
-    }
     match t {
-        TypeData::Primitive(p) => return SizeRead::Bytes(get_primitive_size(call, p)),
-        TypeData::Modifier(m) => {
-            let u = m.underlying;
-            let r = get_type_size(types, bounds, places, call, u, n + 1);
-            return r;
-        }
-        TypeData::Pointer(p) => return SizeRead::Bytes(p.size as u64),
-        TypeData::Procedure(_) => return SizeRead::Bytes(call.size as u64),
-        TypeData::MemberFunction(_) => return SizeRead::Bytes(call.size as u64),
-        TypeData::ArgumentList(_) => return SizeRead::Bytes(0),
-        TypeData::Enumerate(e) => return SizeRead::Bytes(e.width as u64),
-        TypeData::Array(a) => return SizeRead::Bytes(a.size),
-        TypeData::Class(c) => {
-            return SizeRead::Bytes(get_class_size(types, bounds, places, call, index, c));
-        }
-        TypeData::Union(c) => {
-            return SizeRead::Bytes(get_union_size(types, bounds, places, call, index, c));
-        }
-        TypeData::Enumeration(e) => {
-            let u = e.underlying;
-            let r = get_type_size(types, bounds, places, call, u, n + 1);
-            return r;
-        }
-        TypeData::Unhandled(_) => return SizeRead::Bytes(0),
+        TypeData::Primitive(p) => Ok(get_primitive_size(call, p)),
+        _ if 32 <= n => Err(TooLong(index.0)),
+        TypeData::Modifier(m) => get_type_size(lent, call, m.underlying, n + 1),
+        TypeData::Enumeration(e) => get_type_size(lent, call, e.underlying, n + 1),
+        TypeData::Pointer(p) => Ok(u64::from(p.size)),
+        TypeData::Procedure(_) | TypeData::MemberFunction(_) => Ok(u64::from(call.size)),
+        TypeData::ArgumentList(_) | TypeData::Unhandled(_) => Ok(0),
+        TypeData::Enumerate(e) => Ok(e.width as u64),
+        TypeData::Array(a) => Ok(a.size),
+        TypeData::Class(c) => Ok(get_layout_size(lent, index, Layout::from(c))),
+        TypeData::Union(u) => Ok(get_layout_size(lent, index, Layout::from(u))),
     }
 }

@@ -5,66 +5,38 @@ ghost use Rattle.codeview.specs.Read.{read_type_in};
 ghost use Rattle.queries.specs.This.{pointee_of, this_of};
 
 use codeview::index::TypeIndex;
-use codeview::record::{TypeData, TypeRead};
-use codeview::types::type_at;
+use codeview::lent::Lent;
+use codeview::record::TypeData;
 use streams::refusal::Refusal;
 
-// What a this pointer is: one to the given class (and whether the class is const), another type, or one that could not be read.
-#[derive(Clone, Copy)]
-pub enum ThisRead {
-    Given(bool),
-    Other,
-    Refused(Refusal),
-}
-
 // What is pointed to: the class, or a modifier of it.
-fn of_pointee(
-    types: &[u8],
-    bounds: &[u32],
-    places: &[u32],
-    pointee: TypeIndex,
-    class: TypeIndex,
-) -> ThisRead
-    ensures { result ≡ pointee_of (λ i. type_as_read types.now (read_type_in types.now bounds.now places.now i)) pointee.0 class.0 }
+#[tactic(auto, unfolding(crate::specs::This::pointee_of, crate::specs::This::reading, crate::specs::This::through_modifier, rules::specs::Record::type_as_read, rules::specs::Record::type_contents))]
+fn of_pointee(lent: &Lent, pointee: TypeIndex, class: TypeIndex) -> Result<Option<bool>, Refusal>
+    ensures { result ≡ pointee_of (λ i. type_as_read lent.now.types.now (read_type_in lent.now.types.now lent.now.bounds.now lent.now.places.now i)) pointee.0 class.0 }
 {
-    if pointee.0 == class.0 {
-        return ThisRead::Given(false);
+    if pointee == class {
+        return Ok(Some(false));
     }
-    match type_at(types, bounds, places, pointee) {
-        TypeRead::Good(t) => {
-            let TypeData::Modifier(m) = t else {
-                return ThisRead::Other;
-            };
-            if m.underlying.0 == class.0 {
-                return ThisRead::Given(m.constant);
-            }
-            ThisRead::Other
-        }
-        TypeRead::Refused(f) => ThisRead::Refused(f),
-    }
+    let TypeData::Modifier(m) = lent.type_at(pointee)? else {
+        return Ok(None);
+    };
+    Ok((m.underlying == class).then_some(m.constant))
 }
 
 // Index 0 is no this pointer: the method is static.
+#[tactic(auto, unfolding(crate::specs::This::this_of, crate::specs::This::reading, rules::specs::Record::type_as_read, rules::specs::Record::type_contents))]
 pub fn check_ptr_class(
-    types: &[u8],
-    bounds: &[u32],
-    places: &[u32],
+    lent: &Lent,
     this: TypeIndex,
     class: TypeIndex,
-) -> ThisRead
-    ensures { result ≡ this_of (λ i. type_as_read types.now (read_type_in types.now bounds.now places.now i)) this.0 class.0 }
+) -> Result<Option<bool>, Refusal>
+    ensures { result ≡ this_of (λ i. type_as_read lent.now.types.now (read_type_in lent.now.types.now lent.now.bounds.now lent.now.places.now i)) this.0 class.0 }
 {
     if this.0 == 0 {
-        return ThisRead::Given(false);
+        return Ok(Some(false));
     }
-    match type_at(types, bounds, places, this) {
-        TypeRead::Good(t) => {
-            let TypeData::Pointer(p) = t else {
-                return ThisRead::Other;
-            };
-            let pointee = p.underlying;
-            of_pointee(types, bounds, places, pointee, class)
-        }
-        TypeRead::Refused(f) => ThisRead::Refused(f),
-    }
+    let TypeData::Pointer(p) = lent.type_at(this)? else {
+        return Ok(None);
+    };
+    of_pointee(lent, p.underlying, class)
 }

@@ -1,5 +1,6 @@
 -- With lent places that are those of the stream a look-up is handed the stream only from the last place at or before its record, and passes over at most 63
 -- records; entries past those of the stream are never read. Assumes nothing.
+use Rattle.std.specs.Prelude.{Ok}
 use Prim.Native.Nat.{ℕ, ◌+◌, ◌-◌, ◌*◌, ◌/◌, ◌≤◌, ◌<◌}
 use native.Mathlib.Nat.{add-zero}
 use native.Mathlib.Omega.{arith}
@@ -10,10 +11,8 @@ use borrow.Author.Tests.{lt-leb, le-ltb}
 use Rattle.streams.specs.Stream.{passed, record_at, walk_from, look_from, look_up, checked}
 use Rattle.streams.specs.declared.refusal.StreamKind.TheVariants.{Types}
 use Rattle.streams.specs.declared.stream.Stream.{Stream}
-use Rattle.streams.specs.declared.stream.StreamCheck.TheVariants.{Good}
 use Rattle.streams.proofs.Walk.{passed-from}
 use Rattle.streams.proofs.Handed.{passed-moved, record-moved}
-use Rattle.record_places.specs.declared.PlacesCheck.TheVariants.{Right}
 use Rattle.record_places.specs.RecordPlaces.{places_of, places_by, lent_places, found_from, place_before, passed_between}
 use Rattle.record_places.proofs.Laws.{compared-front}
 use Rattle.record_places.proofs.Pass.{good-types, lent-entry}
@@ -21,7 +20,7 @@ use Rattle.record_places.proofs.Pass.{good-types, lent-entry}
 pub few-passed : (n : ℕ) → passed_between n ≤ 63
 few-passed n = omega arith
 
-module _ {A : Type 0} (s ps : List ℕ) (t : Stream) (g : checked Types s ≡ Good t) (h : lent_places s ps ≡ Right) (i : ℕ) (k : ℕ → ℕ → ℕ → A) (m x : A) (low : t.first ≤ i) (high : i < t.end) where
+module _ {A : Type 0} (s ps : List ℕ) (t : Stream) (g : checked Types s ≡ Ok t) (h : lent_places s ps ≡ Ok tt) (i : ℕ) (k : ℕ → ℕ → ℕ → A) (m x : A) (low : t.first ≤ i) (high : i < t.end) where
   abbrev n : ℕ
   n = i - t.first
 
@@ -51,6 +50,6 @@ module _ {A : Type 0} (s ps : List ℕ) (t : Stream) (g : checked Types s ≡ Go
   look-handed = walked ∙ from_place ∙ sym handed
 
 -- What is lent past the places of the stream changes nothing.
-pub lent-front : (s ps : List ℕ) (t : Stream) → checked Types s ≡ Good t → lent_places s (take (length (places_of t s)) ps) ≡ lent_places s ps
+pub lent-front : (s ps : List ℕ) (t : Stream) → checked Types s ≡ Ok t → lent_places s (take (length (places_of t s)) ps) ≡ lent_places s ps
 unfolding places_by
 lent-front s ps t g = rw g (compared-front (places_of t s) ps 0)

@@ -1,17 +1,11 @@
 -- Record places kept beside the stream (document 02, Note 3): what they are, the pass that fills them, and the check of lent ones.
-use Rattle.std.specs.Prelude.{ℕ, zero, suc, ◌+◌, ◌-◌, ◌*◌, ◌/◌, List, [], ◌∷◌, ◌++◌, length, take, drop, get_or, replicate, leb, eqb}
+use Rattle.std.specs.Prelude.{ℕ, zero, suc, ◌+◌, ◌-◌, ◌*◌, ◌/◌, List, [], ◌∷◌, ◌++◌, length, take, drop, get_or, replicate, leb, eqb, Result, Ok, Err}
 use Rattle.wire.specs.Field.{pick}
 use Rattle.streams.specs.Stream.{passed, record_at, checked}
 use Rattle.streams.specs.declared.refusal.StreamKind.TheVariants.{Types}
 use Rattle.streams.specs.declared.refusal.Refusal.{Refusal}
 use Rattle.streams.specs.declared.refusal.Refusal.TheVariants.{WrongPlace}
 use Rattle.streams.specs.declared.stream.Stream.{Stream}
-use Rattle.streams.specs.declared.stream.StreamCheck.{StreamCheck}
-use Rattle.streams.specs.declared.stream.StreamCheck.TheVariants.{Good, Refused}
-use Rattle.record_places.specs.declared.PlacesCheck.{PlacesCheck}
-use Rattle.record_places.specs.declared.PlacesCheck.TheVariants.{Right, Wrong}
-use Rattle.record_places.specs.declared.PlacesAnswer.{PlacesAnswer}
-use Rattle.record_places.specs.declared.PlacesAnswer.TheVariants as answer
 
 -- The place of a record by its number: from the first byte of the stream to its length field.
 unfoldable pub record_place : List ℕ → ℕ → ℕ
@@ -32,17 +26,17 @@ places_of t s = places_from (entries_for (t.end - t.first)) 0 (take t.stop s)
 
 -- Lent places against those of the stream, from entry k on: "an entry lacking or not that of this stream, detail the number of the first from 0". What is
 -- lent past those of the stream is "never read".
-unfoldable pub compared : List ℕ → List ℕ → ℕ → PlacesCheck
-compared [] qs k = Right
-compared (p ∷ ps) [] k = Wrong k
-compared (p ∷ ps) (q ∷ qs) k = pick (eqb q p) (compared ps qs (suc k)) (Wrong k)
+unfoldable pub compared : List ℕ → List ℕ → ℕ → Result Unit ℕ
+compared [] qs k = Ok tt
+compared (p ∷ ps) [] k = Err k
+compared (p ∷ ps) (q ∷ qs) k = pick (eqb q p) (compared ps qs (suc k)) (Err k)
 
 -- The check of lent places, by the check of the stream: 17 comes "after every 3 and 4".
-unfoldable pub places_by : StreamCheck → List ℕ → List ℕ → PlacesCheck
-places_by (Good t) s ps = compared (places_of t s) ps 0
-places_by (Refused f) s ps = Right
+unfoldable pub places_by : Result Stream Refusal → List ℕ → List ℕ → Result Unit ℕ
+places_by (Ok t) s ps = compared (places_of t s) ps 0
+places_by (Err f) s ps = Ok tt
 
-abbrev pub lent_places : List ℕ → List ℕ → PlacesCheck
+abbrev pub lent_places : List ℕ → List ℕ → Result Unit ℕ
 lent_places types ps = places_by (checked Types types) types ps
 
 -- What follows from the record behind so many others in what is handed on of a stream from a place: its kind, and where its fields lie in the whole. "With
@@ -61,25 +55,25 @@ passed_between n = n - n / 64 * 64
 -- What the pass leaves: the buffer, and how many entries are filled, or a refusal.
 pub record Pass : Type 0 where
   pub buf : List ℕ
-  pub told : PlacesAnswer
+  pub told : Result ℕ Refusal
 
-abbrev pub leaves : List ℕ → PlacesAnswer → Pass
+abbrev pub leaves : List ℕ → Result ℕ Refusal → Pass
 leaves b a = record { buf = b; told = a }
 
 -- "The pass gives 3, 4 and, for a short buffer, 17, and then leaves zeros in it."
 abbrev pub refused_pass : List ℕ → Refusal → Pass
-refused_pass old f = leaves (replicate (length old) 0) (answer.Refused f)
+refused_pass old f = leaves (replicate (length old) 0) (Err f)
 
 -- "A pass that fills the front of a lent buffer of u32 with the places .. ; entries past these are unchanged."
 unfoldable pub filled_by : List ℕ → List ℕ → Pass
 filled_by ps old =
     pick (leb (length ps) (length old))
-    (leaves (ps ++ drop (length ps) old) (answer.Filled (length ps)))
+    (leaves (ps ++ drop (length ps) old) (Ok (length ps)))
     (refused_pass old (WrongPlace (length old)))
 
-unfoldable pub pass_by : StreamCheck → List ℕ → List ℕ → Pass
-pass_by (Good t) s old = filled_by (places_of t s) old
-pass_by (Refused f) s old = refused_pass old f
+unfoldable pub pass_by : Result Stream Refusal → List ℕ → List ℕ → Pass
+pass_by (Ok t) s old = filled_by (places_of t s) old
+pass_by (Err f) s old = refused_pass old f
 
 abbrev pub fill_pass : List ℕ → List ℕ → Pass
 fill_pass types old = pass_by (checked Types types) types old

@@ -8,6 +8,7 @@ use mathlib.Core.Bool.{Bool, true, false, ◌||◌}
 use mathlib.Core.List.{List, [], ◌∷◌}
 use lib.Dec.{T, leb, ltb, eqb, leb→le, le→leb}
 use lib.ListN.{length}
+use Rattle.std.specs.Prelude.{Result, Ok, Err}
 use Rattle.wire.specs.Field.{pick}
 use Rattle.streams.specs.Refusal.{number_of}
 use Rattle.streams.specs.Stream.{none, checked}
@@ -15,8 +16,6 @@ use Rattle.streams.specs.declared.refusal.StreamKind.TheVariants.{Types, Ids}
 use Rattle.streams.specs.declared.refusal.Refusal.{Refusal}
 use Rattle.streams.specs.declared.refusal.Refusal.TheVariants as refusal₀
 use Rattle.streams.specs.declared.stream.Stream.{Stream}
-use Rattle.streams.specs.declared.stream.StreamCheck.{StreamCheck}
-use Rattle.streams.specs.declared.stream.StreamCheck.TheVariants.{Good, Refused}
 use Rattle.interpreter.specs.Trace.{Note, again, deep, long, End, done, missing, refused, halted, unfinished, Count, count, Trace, tr, Finished, held, plain}
 use Rattle.interpreter.proofs.Laws.{unnoted, exactly, walk-beside, walk_ends, one_end}
 use Rattle.interpreter.proofs.Steps.{by-steps}
@@ -67,10 +66,10 @@ tied-pick : (b : Bool) {s s' : Trace Refusal} {p p' : ℕ → Trace Refusal} →
 tied-pick true h g = h
 tied-pick false h g = g
 
-tied-whole : (r : StreamCheck) {k : Stream → Trace Refusal} {l : ℕ → Stream → Trace Refusal} → ((t : Stream) → Tied (k t) (λ n. l n t)) → Tied (whole r k) (λ n. whole r (l n))
+tied-whole : (r : Result Stream Refusal) {k : Stream → Trace Refusal} {l : ℕ → Stream → Trace Refusal} → ((t : Stream) → Tied (k t) (λ n. l n t)) → Tied (whole r k) (λ n. whole r (l n))
 unfolding whole
-tied-whole (Good t) h = h t
-tied-whole (Refused f) h = tied-refusal f
+tied-whole (Ok t) h = h t
+tied-whole (Err f) h = tied-refusal f
 
 module _ (flags size : ℕ) (types : List ℕ) where
   tied-types : (x : Task) → Tied (over_types strictly flags size types x) (λ n. over_types (plain_to n) flags size types x)

@@ -6,17 +6,15 @@ use mathlib.Core.Path.{◌≡◌, refl, sym, ◌∙◌, ap, fun_ext}
 use mathlib.Core.Bool.{Bool, true, false}
 use mathlib.Core.List.{List, []}
 use lib.Dec.{leb}
+use Rattle.std.specs.Prelude.{Ok, Err}
 use Rattle.wire.specs.Field.{pick}
 use Rattle.streams.specs.Stream.{header, none, no_ids, headless, checked}
 use Rattle.streams.specs.declared.refusal.StreamKind.TheVariants.{Types, Ids}
 use Rattle.streams.specs.declared.refusal.Refusal.{Refusal}
 use Rattle.streams.specs.declared.refusal.Refusal.TheVariants.{Missing, CrossModule}
 use Rattle.streams.specs.declared.stream.Stream.{Stream}
-use Rattle.streams.specs.declared.stream.StreamCheck.TheVariants.{Good}
 use Rattle.streams.proofs.Marks.{look_none}
 use Rattle.codeview.specs.Read.{read_type, id_from, read_id}
-use Rattle.codeview.specs.declared.record.IdRead.{IdRead}
-use Rattle.codeview.specs.declared.record.IdRead.TheVariants as id_read
 use Rattle.interpreter.specs.Trace.{done, refused, count, Trace, tr, exec, opening, run, walk}
 use Rattle.rules.specs.Flags.{Settings, settings, sized, flagged}
 use Rattle.rules.specs.Record.{Read, IdRecord, bad, type_as_read, id_as_read, Table, table_of}
@@ -27,7 +25,7 @@ use Rattle.rules.specs.Opening.{after_read, entry_of, body, walked}
 use Rattle.rules.specs.Call.{refusal, whole, over_ids, id_reading, strictly, id_outcome, within}
 
 -- It is good.
-pub checked-nothing : checked Ids [] ≡ Good none
+pub checked-nothing : checked Ids [] ≡ Ok none
 unfolding checked header headless no_ids
 checked-nothing = refl
 
@@ -38,10 +36,10 @@ absent b i = bad (pick b (CrossModule i) (Missing i))
 id-absent : (ids : List ℕ) (u : Stream) → u.end ≤ u.first → (i : ℕ) → id_as_read ids (read_id ids u i) ≡ absent (leb 0x8000_0000 i) i
 unfolding id_from id_as_read
 id-absent ids u h i =
-    ap (λ (r : IdRead). id_as_read ids r) (look_none ids u h i _ (id_read.Refused (Missing i)) (id_read.Refused (CrossModule i)))
+    ap (id_as_read ids) (look_none ids u h i _ (Err (Missing i)) (Err (CrossModule i)))
     ∙ go (leb 0x8000_0000 i)
   where
-    go : (b : Bool) → id_as_read ids (pick b (id_read.Refused (CrossModule i)) (id_read.Refused (Missing i))) ≡ absent b i
+    go : (b : Bool) → id_as_read ids (pick b (Err (CrossModule i)) (Err (Missing i))) ≡ absent b i
     go true = refl
     go false = refl
 
@@ -55,7 +53,7 @@ tables-alike types t ids u h =
     (fun_ext (λ i. nothing-absent i ∙ sym (id-absent ids u h i)))
 
 -- Every id call is read alike over no bytes and over a header with no records, strictly or plainly, and so answered alike in any buffer.
-module _ (flags size : ℕ) (types ids : List ℕ) (u : Stream) (e : checked Ids ids ≡ Good u) (h : u.end ≤ u.first) (index : ℕ) where
+module _ (flags size : ℕ) (types ids : List ℕ) (u : Stream) (e : checked Ids ids ≡ Ok u) (h : u.end ≤ u.first) (index : ℕ) where
   pub no-ids-read : (read : Settings → Table → Task → Trace Refusal) → id_reading read flags size types [] index ≡ id_reading read flags size types ids index
   unfolding id_reading over_ids whole
   no-ids-read read =

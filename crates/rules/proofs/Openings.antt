@@ -7,6 +7,7 @@ use mathlib.Core.Bool.{Bool, true, false, ◌||◌}
 use mathlib.Core.List.{List, [], ◌∷◌}
 use lib.Dec.{eqb, ltb}
 use lib.ListN.{length}
+use Rattle.std.specs.Prelude.{Result, Ok, Err}
 use Rattle.wire.specs.Field.{pick}
 use Rattle.wire.specs.Text.{bytes}
 use Rattle.streams.specs.Refusal.{number_of}
@@ -14,11 +15,7 @@ use Rattle.streams.specs.Stream.{none, checked}
 use Rattle.streams.specs.declared.refusal.Refusal.{Refusal}
 use Rattle.streams.specs.declared.refusal.StreamKind.TheVariants.{Types, Ids}
 use Rattle.streams.specs.declared.stream.Stream.{Stream}
-use Rattle.streams.specs.declared.stream.StreamCheck.{StreamCheck}
-use Rattle.streams.specs.declared.stream.StreamCheck.TheVariants.{Good, Refused}
 use Rattle.record_places.specs.RecordPlaces.{lent_places}
-use Rattle.record_places.specs.declared.PlacesCheck.{PlacesCheck}
-use Rattle.record_places.specs.declared.PlacesCheck.TheVariants.{Right, Wrong}
 use Rattle.interpreter.specs.Trace.{Trace, tr, write, through, Held, held, walk}
 use Rattle.interpreter.proofs.Openings.{left, Paid, Hushed, Pays, pays-hushed, Spaced, paid-walk}
 use Rattle.rules.specs.Flags.{Settings, settings, sized, flagged}
@@ -282,10 +279,10 @@ unfolding flagged sized
 few-checks flags size t h =
     few-pick (ltb flags 64) _ _ (few-pick (eqb size 4 || (eqb size 8 || eqb size 16)) t _ h (omega arith)) (omega arith)
 
-few-whole : (r : StreamCheck) (k : Stream → Trace Refusal) → ((t : Stream) → Few (k t)) → Few (whole r k)
+few-whole : (r : Result Stream Refusal) (k : Stream → Trace Refusal) → ((t : Stream) → Few (k t)) → Few (whole r k)
 unfolding whole
-few-whole (Good t) k h = h t
-few-whole (Refused f) k h = omega arith
+few-whole (Ok t) k h = h t
+few-whole (Err f) k h = omega arith
 
 module _ (read : Settings → Table → Task → Trace Refusal) (few : (c : Settings) (t : Table) (x : Task) → Few (read c t x)) (flags size : ℕ) (types : List ℕ) where
   few-types : (x : Task) → Few (over_types read flags size types x)
@@ -304,9 +301,9 @@ few-placed : (types ps : List ℕ) (c : Settings) (t : Table) (x : Task) → Few
 unfolding with_places by_places
 few-placed types ps c t x = by (lent_places types ps)
   where
-    by : (p : PlacesCheck) → Few (by_places p (strictly c t x))
-    by Right = few-strictly c t x
-    by (Wrong k) = omega arith
+    by : (p : Result Unit ℕ) → Few (by_places p (strictly c t x))
+    by (Ok tt) = few-strictly c t x
+    by (Err k) = omega arith
 
 module _ (flags size : ℕ) (types : List ℕ) where
   pub few-function : (name : List ℕ) (index : ℕ) → Few (function_reading strictly flags size types name index)

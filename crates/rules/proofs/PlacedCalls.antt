@@ -8,18 +8,15 @@ use lib.Dec.{eqb, ltb}
 use lib.ListN.{length, take}
 use native.Mathlib.Omega.{arith}
 use borrow.Author.Tests.{le-leb}
+use Rattle.std.specs.Prelude.{Result, Ok, Err}
 use Rattle.wire.specs.Field.{pick}
 use Rattle.streams.specs.Stream.{none, checked}
 use Rattle.streams.specs.declared.refusal.StreamKind.TheVariants.{Types, Ids}
 use Rattle.streams.specs.declared.refusal.Refusal.{Refusal}
 use Rattle.streams.specs.declared.refusal.Refusal.TheVariants.{UnknownFlags, PointerSize, WrongPlace}
 use Rattle.streams.specs.declared.stream.Stream.{Stream}
-use Rattle.streams.specs.declared.stream.StreamCheck.{StreamCheck}
-use Rattle.streams.specs.declared.stream.StreamCheck.TheVariants.{Good, Refused}
 use Rattle.record_places.specs.RecordPlaces.{places_of, lent_places}
 use Rattle.record_places.proofs.Near.{lent-front}
-use Rattle.record_places.specs.declared.PlacesCheck.{PlacesCheck}
-use Rattle.record_places.specs.declared.PlacesCheck.TheVariants.{Right, Wrong}
 use Rattle.interpreter.specs.Trace.{Trace, Finished}
 use Rattle.rules.specs.Flags.{Settings, settings, sized, flagged}
 use Rattle.rules.specs.Record.{Table, table_of}
@@ -30,18 +27,18 @@ use Rattle.rules.proofs.Demand.{function-demand, id-demand, type-demand, size-en
 
 -- How a task is read, by the check of the places.
 module _ (types ps : List ℕ) (read : Settings → Table → Task → Trace Refusal) where
-  placed-right : lent_places types ps ≡ Right → with_places types ps read ≡ read
+  placed-right : lent_places types ps ≡ Ok tt → with_places types ps read ≡ read
   unfolding with_places by_places
-  placed-right h = fun_ext (λ c. fun_ext (λ t. fun_ext (λ x. ap (λ (p : PlacesCheck). by_places p (read c t x)) h)))
+  placed-right h = fun_ext (λ c. fun_ext (λ t. fun_ext (λ x. ap (λ p. by_places p (read c t x)) h)))
 
-  placed-wrong : (k : ℕ) → lent_places types ps ≡ Wrong k → with_places types ps read ≡ (λ c t x. refusal (WrongPlace k))
+  placed-wrong : (k : ℕ) → lent_places types ps ≡ Err k → with_places types ps read ≡ (λ c t x. refusal (WrongPlace k))
   unfolding with_places by_places
-  placed-wrong k h = fun_ext (λ c. fun_ext (λ t. fun_ext (λ x. ap (λ (p : PlacesCheck). by_places p (read c t x)) h)))
+  placed-wrong k h = fun_ext (λ c. fun_ext (λ t. fun_ext (λ x. ap (λ p. by_places p (read c t x)) h)))
 
 -- What is lent past the places of the stream is never read: it changes no call.
-pub placed-front : (types ps : List ℕ) (t : Stream) → checked Types types ≡ Good t → with_places types (take (length (places_of t types)) ps) ≡ with_places types ps
+pub placed-front : (types ps : List ℕ) (t : Stream) → checked Types types ≡ Ok t → with_places types (take (length (places_of t types)) ps) ≡ with_places types ps
 unfolding with_places
-placed-front types ps t g = fun_ext (λ read. fun_ext (λ c. fun_ext (λ s. fun_ext (λ x. ap (λ (p : PlacesCheck). by_places p (read c s x)) (lent-front types ps t g)))))
+placed-front types ps t g = fun_ext (λ read. fun_ext (λ c. fun_ext (λ s. fun_ext (λ x. ap (λ p. by_places p (read c s x)) (lent-front types ps t g)))))
 
 -- A refusal before the walk, whatever the room.
 pub refusal-within : (room : ℕ) (f : Refusal) → within room (refusal f) ≡ stopped f
@@ -62,10 +59,10 @@ either-pick : (b : Bool) {f : Refusal} {s t u v : Trace Refusal} → Either f s 
 either-pick true e g = e
 either-pick false e g = g
 
-either-whole : (c : StreamCheck) {f : Refusal} {k l : Stream → Trace Refusal} → ((t : Stream) → Either f (k t) (l t)) → Either f (whole c k) (whole c l)
+either-whole : (c : Result Stream Refusal) {f : Refusal} {k l : Stream → Trace Refusal} → ((t : Stream) → Either f (k t) (l t)) → Either f (whole c k) (whole c l)
 unfolding whole
-either-whole (Good t) e = e t
-either-whole (Refused g) {f} e = either-check f g
+either-whole (Ok t) e = e t
+either-whole (Err g) {f} e = either-check f g
 
 either-sized : (size : ℕ) {f : Refusal} {s t : Trace Refusal} → Either f s t → Either f (sized size s refusal) (sized size t refusal)
 unfolding sized
@@ -93,7 +90,7 @@ module _ (types ps : List ℕ) (reading : (Settings → Table → Task → Trace
   abbrev lent : Trace Refusal
   lent = reading (with_places types ps strictly)
 
-  wrong-either : (k : ℕ) → lent_places types ps ≡ Wrong k → (lent ≡ refusal (WrongPlace k)) ⊎ (lent ≡ reading strictly)
+  wrong-either : (k : ℕ) → lent_places types ps ≡ Err k → (lent ≡ refusal (WrongPlace k)) ⊎ (lent ≡ reading strictly)
   wrong-either k h = go (stops (WrongPlace k)).either
     where
       same : lent ≡ reading (λ c t x. refusal (WrongPlace k))
@@ -115,9 +112,9 @@ module _ (types ps : List ℕ) (reading : (Settings → Table → Task → Trace
       by k (inl e) = subst Finished (sym e) tt
       by k (inr e) = subst Finished (sym e) ends
 
-      go : (p : PlacesCheck) → lent_places types ps ≡ p → Finished lent
-      go Right h = subst Finished (sym (ap reading (placed-right types ps strictly h))) ends
-      go (Wrong k) h = by k (wrong-either k h)
+      go : (p : Result Unit ℕ) → lent_places types ps ≡ p → Finished lent
+      go (Ok tt) h = subst Finished (sym (ap reading (placed-right types ps strictly h))) ends
+      go (Err k) h = by k (wrong-either k h)
 
   -- A call that is not refused by 17 is the plain one.
   not-wrong : (room : ℕ) → ((k : ℕ) → ¬ (within room lent ≡ stopped (WrongPlace k))) → lent ≡ reading strictly
@@ -127,9 +124,9 @@ module _ (types ps : List ℕ) (reading : (Settings → Table → Task → Trace
       by k (inl e) = absurd (n k (ap (within room) e ∙ refusal-within room (WrongPlace k)))
       by k (inr e) = e
 
-      go : (p : PlacesCheck) → lent_places types ps ≡ p → lent ≡ reading strictly
-      go Right h = ap reading (placed-right types ps strictly h)
-      go (Wrong k) h = by k (wrong-either k h)
+      go : (p : Result Unit ℕ) → lent_places types ps ≡ p → lent ≡ reading strictly
+      go (Ok tt) h = ap reading (placed-right types ps strictly h)
+      go (Err k) h = by k (wrong-either k h)
 
 placed-demand : (types ps : List ℕ) {reading : (Settings → Table → Task → Trace Refusal) → Trace Refusal} → Demand reading → ((f : Refusal) → Either f (reading (λ c t x. refusal f)) (reading strictly)) → PlacedDemand types ps reading
 placed-demand types ps {reading} d stops =
@@ -160,7 +157,7 @@ size-as-plain size types ps index =
     (λ f. either-sized size (either-whole (checked Types types) (λ t. either-walk f (strictly (settings 0 size) (table_of types t [] none) (size_of index 0)))))
 
 -- The answers themselves, where the places are right, and where one is wrong.
-module _ (types ps : List ℕ) (h : lent_places types ps ≡ Right) where
+module _ (types ps : List ℕ) (h : lent_places types ps ≡ Ok tt) where
   pub function-right : (flags size : ℕ) (name : List ℕ) (index room : ℕ) → function_placed flags size types ps name index room ≡ function_outcome flags size types name index room
   unfolding function_placed function_outcome
   function-right flags size name index room = ap (λ (r : Settings → Table → Task → Trace Refusal). within room (function_reading r flags size types name index)) (placed-right types ps strictly h)
@@ -177,7 +174,7 @@ module _ (types ps : List ℕ) (h : lent_places types ps ≡ Right) where
   unfolding size_placed size_outcome
   size-right size index = ap (λ (r : Settings → Table → Task → Trace Refusal). size_answer (within 1 (size_reading r size types index))) (placed-right types ps strictly h)
 
-module _ (types ps : List ℕ) (k : ℕ) (h : lent_places types ps ≡ Wrong k) where
+module _ (types ps : List ℕ) (k : ℕ) (h : lent_places types ps ≡ Err k) where
   abbrev stopping : Settings → Table → Task → Trace Refusal
   stopping c t x = refusal (WrongPlace k)
 

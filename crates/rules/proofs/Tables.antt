@@ -8,21 +8,19 @@ use Rattle.streams.specs.declared.stream.Stream.{Stream}
 use Rattle.streams.specs.declared.places.Spacing.{Spacing}
 use Rattle.streams.proofs.Marks.{look-nothing}
 use Rattle.codeview.specs.Read.{read_type, read_type_by, id_from, read_id, read_id_by}
-use Rattle.codeview.specs.declared.record.TypeRead.{TypeRead}
-use Rattle.codeview.specs.declared.record.IdRead.{IdRead}
 use Rattle.codeview.proofs.Right.{type-right, id_right}
 use Rattle.rules.specs.Record.{Read, Record, IdRecord, type_as_read, id_as_read, table_of}
 use Rattle.rules.specs.Places.{table_by}
 
 module _ (l : Spacing) (ps s : List ℕ) (t : Stream) (r : RightFor l ps s t) (m : Spacing) (qs d : List ℕ) (u : Stream) where
   types-alike : ◌≡◌ {A = ℕ → Read Record} (λ i. type_as_read s (read_type_by l ps s t i)) (λ i. type_as_read s (read_type s t i))
-  types-alike = fun_ext (λ i. ap (λ (x : TypeRead). type_as_read s x) (type-right l ps s t r i))
+  types-alike = fun_ext (λ i. ap (type_as_read s) (type-right l ps s t r i))
 
   alike : (v : Stream) → ((i : ℕ) → read_id_by m qs d u i ≡ read_id d v i) → table_by l ps s t m qs d u ≡ table_of s t d v
   unfolding table_by table_of
   alike v q =
       ap (λ (f : ℕ → Read Record). record { types = f; end = t.end; ids = λ i. id_as_read d (read_id_by m qs d u i) }) types-alike
-      ∙ ap (λ (g : ℕ → Read IdRecord). record { types = λ i. type_as_read s (read_type s t i); end = t.end; ids = g }) (fun_ext (λ i. ap (λ (x : IdRead). id_as_read d x) (q i)))
+      ∙ ap (λ (g : ℕ → Read IdRecord). record { types = λ i. type_as_read s (read_type s t i); end = t.end; ids = g }) (fun_ext (λ i. ap (id_as_read d) (q i)))
 
   pub table-right : RightFor m qs d u → table_by l ps s t m qs d u ≡ table_of s t d u
   table-right q = alike u (id_right m qs d u q)

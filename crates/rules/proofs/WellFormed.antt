@@ -7,6 +7,7 @@ use mathlib.Core.Bool.{Bool, true, false, ◌&&◌, ◌||◌, not}
 use mathlib.Core.List.{List, [], ◌∷◌}
 use lib.Dec.{eqb, leb, ltb}
 use lib.ListN.{length}
+use Rattle.std.specs.Prelude.{Result, Ok, Err}
 use Rattle.wire.specs.Field.{pick}
 use Rattle.wire.specs.Text.{bytes}
 use Rattle.wire.specs.declared.name.Name.{Name}
@@ -15,18 +16,12 @@ use Rattle.streams.specs.declared.refusal.Refusal.{Refusal}
 use Rattle.streams.specs.declared.refusal.Refusal.TheVariants.{NoRoom}
 use Rattle.streams.specs.declared.refusal.StreamKind.TheVariants.{Types, Ids}
 use Rattle.streams.specs.declared.stream.Stream.{Stream}
-use Rattle.streams.specs.declared.stream.StreamCheck.{StreamCheck}
-use Rattle.streams.specs.declared.stream.StreamCheck.TheVariants.{Good, Refused}
 use Rattle.streams.specs.Stream.{none, checked}
 use Rattle.codeview.specs.Read.{read_type, read_id}
 use Rattle.codeview.specs.declared.record.TypeData.{TypeData}
 use Rattle.codeview.specs.declared.record.TypeData.TheVariants as type
-use Rattle.codeview.specs.declared.record.TypeRead.{TypeRead}
-use Rattle.codeview.specs.declared.record.TypeRead.TheVariants as type_read
 use Rattle.codeview.specs.declared.record.IdData.{IdData}
 use Rattle.codeview.specs.declared.record.IdData.TheVariants as id
-use Rattle.codeview.specs.declared.record.IdRead.{IdRead}
-use Rattle.codeview.specs.declared.record.IdRead.TheVariants as id_read
 use Rattle.utf8.specs.Utf8.{WellFormed, empty}
 use Rattle.utf8.proofs.Shown.{shown-well, all_ascii, well-append, well-ascii}
 use Rattle.interpreter.specs.Trace.{done, missing, refused, halted, again, deep, long, unfinished, End, Trace, tr, write, held, need, walk, strict}
@@ -325,15 +320,15 @@ id-contents-well s (id.StringList e) = tt
 id-contents-well s (id.String t) = shown-at s t.name
 id-contents-well s (id.Unhandled k) = tt
 
-read-well : (s : List ℕ) (r : TypeRead) → ReadWell RecordWell (type_as_read s r)
+read-well : (s : List ℕ) (r : Result TypeData Refusal) → ReadWell RecordWell (type_as_read s r)
 unfolding ReadWell type_as_read
-read-well s (type_read.Good d) = contents-well s d
-read-well s (type_read.Refused f) = tt
+read-well s (Ok d) = contents-well s d
+read-well s (Err f) = tt
 
-id-read-well : (s : List ℕ) (r : IdRead) → ReadWell IdWell (id_as_read s r)
+id-read-well : (s : List ℕ) (r : Result IdData Refusal) → ReadWell IdWell (id_as_read s r)
 unfolding ReadWell id_as_read
-id-read-well s (id_read.Good d) = id-contents-well s d
-id-read-well s (id_read.Refused f) = tt
+id-read-well s (Ok d) = id-contents-well s d
+id-read-well s (Err f) = tt
 
 table-well : (s : List ℕ) (t : Stream) (d : List ℕ) (u : Stream) → TableWell (table_of s t d u)
 unfolding table_of
@@ -352,10 +347,10 @@ unfolding flagged sized
 checks-well flags size t h =
     pick-well (ltb flags 64) _ _ (pick-well (eqb size 4 || (eqb size 8 || eqb size 16)) t _ h empty) empty
 
-whole-well : (r : StreamCheck) (k : Stream → Trace Refusal) → ((t : Stream) → H (k t)) → H (whole r k)
+whole-well : (r : Result Stream Refusal) (k : Stream → Trace Refusal) → ((t : Stream) → H (k t)) → H (whole r k)
 unfolding whole
-whole-well (Good t) k h = h t
-whole-well (Refused f) k h = empty
+whole-well (Ok t) k h = h t
+whole-well (Err f) k h = empty
 
 types-well : (flags size : ℕ) (types : List ℕ) (x : Task) → TaskWell x → H (over_types strictly flags size types x)
 unfolding over_types

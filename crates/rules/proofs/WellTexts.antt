@@ -5,12 +5,10 @@ use mathlib.Core.Path.{◌≡◌, refl}
 use mathlib.Core.Bool.{Bool, true, false, ◌&&◌, ◌||◌, not}
 use mathlib.Core.List.{List, [], ◌∷◌, ◌++◌}
 use lib.Dec.{eqb, ltb}
-use lib.ListN.{take}
 use borrow.Author.Tests.{lt-ltb, ltb-true}
 use Rattle.wire.specs.Field.{pick}
 use Rattle.wire.specs.Text.{bytes}
-use Rattle.primitives.specs.declared.PrimitiveKind.{PrimitiveKind}
-use Rattle.primitives.specs.Primitive.{primitives, first_of}
+use Rattle.primitives.specs.Primitive.{Kind, primitives, first_of}
 use Rattle.codeview.specs.declared.record.PointerMode.{PointerMode}
 use Rattle.codeview.specs.declared.record.PointerMode.TheVariants as mode
 use Rattle.codeview.specs.declared.record.ClassKind.{ClassKind}
@@ -111,22 +109,22 @@ unfolding worded all_ascii
 enumerate-well c name w = behind-word c (bytes "enum class") name refl w
 
 -- Primitives: the names of the table.
-unfoldable named-ascii : List PrimitiveKind → Bool
+unfoldable named-ascii : List Kind → Bool
 named-ascii [] = true
-named-ascii (k ∷ ks) = all_ascii (take k.len k.name) && named-ascii ks
+named-ascii (k ∷ ks) = all_ascii k.name && named-ascii ks
 
 table-ascii : named-ascii primitives ≡ true
 unfolding named-ascii primitives all_ascii
 table-ascii = refl
 
-first-ascii : (code : ℕ) (l : List PrimitiveKind) → named-ascii l ≡ true → all_ascii (first_of code l (λ k. take k.len k.name) []) ≡ true
+first-ascii : (code : ℕ) (l : List Kind) → named-ascii l ≡ true → all_ascii (first_of code l (λ k. k.name) []) ≡ true
 unfolding first_of named-ascii all_ascii
 first-ascii code [] h = refl
-first-ascii code (k ∷ ks) h = by (eqb k.code code) (all_ascii (take k.len k.name)) refl h (first-ascii code ks)
+first-ascii code (k ∷ ks) h = by (eqb k.code code) (all_ascii k.name) refl h (first-ascii code ks)
   where
-    by : (t u : Bool) → all_ascii (take k.len k.name) ≡ u → (u && named-ascii ks) ≡ true
-        → (named-ascii ks ≡ true → all_ascii (first_of code ks (λ k. take k.len k.name) []) ≡ true)
-        → all_ascii (pick t (take k.len k.name) (first_of code ks (λ k. take k.len k.name) [])) ≡ true
+    by : (t u : Bool) → all_ascii k.name ≡ u → (u && named-ascii ks) ≡ true
+        → (named-ascii ks ≡ true → all_ascii (first_of code ks (λ k. k.name) []) ≡ true)
+        → all_ascii (pick t k.name (first_of code ks (λ k. k.name) [])) ≡ true
     by true true e g r = e
     by false true e g r = r g
     by t false e g r = never g

@@ -1,5 +1,5 @@
 -- The calls (document 01, "What a call answers"): the checks, the streams, the walk, then the buffer.
-use Rattle.std.specs.Prelude.{ℕ, ◌≤◌, Bool, true, false, List, [], ◌∷◌, ◌++◌, ◌↔◌, ◌≡◌, leb, length, drop, replicate}
+use Rattle.std.specs.Prelude.{ℕ, ◌≤◌, Bool, true, false, List, [], ◌∷◌, ◌++◌, ◌↔◌, ◌≡◌, leb, length, drop, replicate, Result, Ok, Err}
 use Rattle.wire.specs.Field.{pick}
 use Rattle.streams.specs.Refusal.{number_of, detail_of}
 use Rattle.streams.specs.Stream.{none, checked}
@@ -7,8 +7,6 @@ use Rattle.streams.specs.declared.refusal.StreamKind.TheVariants.{Types, Ids}
 use Rattle.streams.specs.declared.refusal.Refusal.{Refusal}
 use Rattle.streams.specs.declared.refusal.Refusal.TheVariants.{Missing, CircularTypeDefinition, TooManyOpen, ChainTooLong, NoRoom}
 use Rattle.streams.specs.declared.stream.Stream.{Stream}
-use Rattle.streams.specs.declared.stream.StreamCheck.{StreamCheck}
-use Rattle.streams.specs.declared.stream.StreamCheck.TheVariants.{Good, Refused}
 use Rattle.interpreter.specs.Trace.{
   Note,
   again,
@@ -61,9 +59,9 @@ abbrev pub refusal : Refusal → Trace Refusal
 refusal f = tr [] (refused f) [] (count 0 0)
 
 -- What follows from the check of a stream.
-unfoldable pub whole : StreamCheck → (Stream → Trace Refusal) → Trace Refusal
-whole (Good t) k = k t
-whole (Refused f) k = refusal f
+unfoldable pub whole : Result Stream Refusal → (Stream → Trace Refusal) → Trace Refusal
+whole (Ok t) k = k t
+whole (Err f) k = refusal f
 
 -- What is lent to a call besides what it asks: "Call checks come first, then stream checks (types, then ids where the call is for an id), then the walk".
 -- How a task is read is handed in: the walk, or the plain reading of some depth.

@@ -1,11 +1,9 @@
 -- The calls with lent places (document 02, Note 3): "calls that take it accept any buffer, check it against the stream, and otherwise answer as the plain calls
 -- do, on all inputs".
-use Rattle.std.specs.Prelude.{ℕ, ◌≤◌, List, ◌↔◌, ◌⊎◌, ◌≡◌, length}
+use Rattle.std.specs.Prelude.{ℕ, ◌≤◌, List, ◌↔◌, ◌⊎◌, ◌≡◌, length, Result, Ok, Err}
 use Rattle.streams.specs.declared.refusal.Refusal.{Refusal}
 use Rattle.streams.specs.declared.refusal.Refusal.TheVariants.{WrongPlace}
 use Rattle.record_places.specs.RecordPlaces.{lent_places}
-use Rattle.record_places.specs.declared.PlacesCheck.{PlacesCheck}
-use Rattle.record_places.specs.declared.PlacesCheck.TheVariants.{Right, Wrong}
 use Rattle.interpreter.specs.Trace.{Trace, Finished}
 use Rattle.rules.specs.Flags.{Settings}
 use Rattle.rules.specs.Record.{Table}
@@ -13,9 +11,9 @@ use Rattle.rules.specs.Task.{Task}
 use Rattle.rules.specs.Call.{Outcome, text, stopped, Size, refusal, within, size_answer, function_reading, id_reading, type_reading, size_reading, strictly, plain_to, Reads, Demand}
 
 -- What follows from lent places: "17, an entry lacking or not that of this stream".
-unfoldable pub by_places : PlacesCheck → Trace Refusal → Trace Refusal
-by_places Right t = t
-by_places (Wrong k) t = refusal (WrongPlace k)
+unfoldable pub by_places : Result Unit ℕ → Trace Refusal → Trace Refusal
+by_places (Ok tt) t = t
+by_places (Err k) t = refusal (WrongPlace k)
 
 -- How a task is read with lent places. They are looked at where the walk would begin, so 17 comes "after every 3 and 4".
 unfoldable pub with_places : List ℕ → List ℕ → (Settings → Table → Task → Trace Refusal) → Settings → Table → Task → Trace Refusal
@@ -37,8 +35,8 @@ size_placed size types ps index = size_answer (within 1 (size_reading (with_plac
 -- "Otherwise answer as the plain calls do, on all inputs": with the places of this stream a call reads what the plain call reads; with others it gives 17, or,
 -- where its other checks refuse it, what the plain call gives. It always ends.
 pub record AsPlain (types ps : List ℕ) (reading : (Settings → Table → Task → Trace Refusal) → Trace Refusal) : Type 0 where
-  pub right : lent_places types ps ≡ Right → reading (with_places types ps strictly) ≡ reading strictly
-  pub wrong : (k : ℕ) → lent_places types ps ≡ Wrong k → (reading (with_places types ps strictly) ≡ refusal (WrongPlace k)) ⊎ (reading (with_places types ps strictly) ≡ reading strictly)
+  pub right : lent_places types ps ≡ Ok tt → reading (with_places types ps strictly) ≡ reading strictly
+  pub wrong : (k : ℕ) → lent_places types ps ≡ Err k → (reading (with_places types ps strictly) ≡ refusal (WrongPlace k)) ⊎ (reading (with_places types ps strictly) ≡ reading strictly)
   pub finished : Finished (reading (with_places types ps strictly))
 
 -- Demand 3 of a text call with lent places. It "leaves calls with a 17 out": of any other, there is a text exactly where the plain reading ends in it and the

@@ -1,5 +1,5 @@
 -- Records as the rules see them (document 01, "Streams and records"): what they say, and no place of a stream. The streams are put in here, once.
-use Rattle.std.specs.Prelude.{ℕ, zero, suc, ◌+◌, Bool, List, [], ◌∷◌, take, drop}
+use Rattle.std.specs.Prelude.{ℕ, zero, suc, ◌+◌, Bool, List, [], ◌∷◌, take, drop, Option, Some, None, Result, Ok, Err}
 use Rattle.wire.specs.Field.{number}
 use Rattle.wire.specs.declared.name.Name.{Name}
 use Rattle.utf8.specs.Utf8.{shown}
@@ -8,16 +8,10 @@ use Rattle.streams.specs.declared.stream.Stream.{Stream}
 use Rattle.codeview.specs.Read.{read_type, read_id}
 use Rattle.codeview.specs.declared.record.PointerMode.{PointerMode}
 use Rattle.codeview.specs.declared.record.ClassKind.{ClassKind}
-use Rattle.codeview.specs.declared.record.UniqueName.{UniqueName}
-use Rattle.codeview.specs.declared.record.UniqueName.TheVariants.{Given, Absent}
 use Rattle.codeview.specs.declared.record.TypeData.{TypeData}
 use Rattle.codeview.specs.declared.record.TypeData.TheVariants as type
-use Rattle.codeview.specs.declared.record.TypeRead.{TypeRead}
-use Rattle.codeview.specs.declared.record.TypeRead.TheVariants as type_read
 use Rattle.codeview.specs.declared.record.IdData.{IdData}
 use Rattle.codeview.specs.declared.record.IdData.TheVariants as id
-use Rattle.codeview.specs.declared.record.IdRead.{IdRead}
-use Rattle.codeview.specs.declared.record.IdRead.TheVariants as id_read
 
 -- The marks of a modifier or of a pointer.
 pub record Attributes : Type 0 where
@@ -92,9 +86,9 @@ numbers_at s at zero = []
 numbers_at s at (suc n) = number 4 s at ∷ numbers_at s (at + 4) n
 
 -- "Unique name first": the name by which a record is matched. "Forward references are still matched by raw bytes" (Note 2).
-unfoldable pub match_name : List ℕ → Name → UniqueName → List ℕ
-match_name s n (Given u) = name_at s u
-match_name s n Absent = name_at s n
+unfoldable pub match_name : List ℕ → Name → Option Name → List ℕ
+match_name s n (Some u) = name_at s u
+match_name s n None = name_at s n
 
 abbrev layout : Bool → ℕ → List ℕ → List ℕ → Layout
 layout forward size name match = record { forward = forward; size = size; name = name; match = match }
@@ -134,13 +128,13 @@ id_contents s (id.StringList e) = strings (numbers_at s e.start e.count)
 id_contents s (id.String t) = string (shown_at s t.name)
 id_contents s (id.Unhandled k) = id_kind_only k
 
-unfoldable pub type_as_read : List ℕ → TypeRead → Read Record
-type_as_read s (type_read.Good t) = good (type_contents s t)
-type_as_read s (type_read.Refused f) = bad f
+unfoldable pub type_as_read : List ℕ → Result TypeData Refusal → Read Record
+type_as_read s (Ok t) = good (type_contents s t)
+type_as_read s (Err f) = bad f
 
-unfoldable pub id_as_read : List ℕ → IdRead → Read IdRecord
-id_as_read s (id_read.Good d) = good (id_contents s d)
-id_as_read s (id_read.Refused f) = bad f
+unfoldable pub id_as_read : List ℕ → Result IdData Refusal → Read IdRecord
+id_as_read s (Ok d) = good (id_contents s d)
+id_as_read s (Err f) = bad f
 
 -- The table of two checked streams.
 unfoldable pub table_of : List ℕ → Stream → List ℕ → Stream → Table

@@ -47,7 +47,7 @@ function_name (b ∷ bs) = b ∷ bs
 
 -- The name and the byte size of a primitive's kind.
 unfoldable pub primitive_name : ℕ → List ℕ
-primitive_name code = first_of code primitives (λ k. take k.len k.name) []
+primitive_name code = first_of code primitives (λ k. k.name) []
 
 unfoldable pub primitive_size : ℕ → ℕ
 primitive_size code = first_of code primitives (λ k. k.size) 0

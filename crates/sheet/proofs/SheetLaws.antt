@@ -1,4 +1,5 @@
 -- Laws of sheets: commands, lines in a buffer, and the lines that fit. Assumes nothing.
+use Rattle.std.specs.Prelude.{Result, Ok, Err, Option, Some, None}
 use Prim.Native.Nat.{ℕ, zero, suc, ◌+◌, ◌-◌, ◌≤◌, ◌<◌}
 use mathlib.Core.Path.{◌≡◌, refl, ap, ap₂, sym, ◌∙◌}
 use mathlib.Core.Bool.{Bool, true, false}
@@ -18,11 +19,9 @@ use Rattle.rules.specs.Call as call
 use Rattle.pen.specs.Page.{page, Wrote, writing, stop_of}
 use Rattle.pen.specs.declared.Pen.{Pen}
 use Rattle.pen.proofs.Laws.{ran-fits, Ran}
-use Rattle.checked_calls.specs.Answers.{Result, of_answer, given, started, laid, text_of}
+use Rattle.checked_calls.specs.Answers.{Left, of_answer, given, started, laid, text_of}
 use Rattle.checked_calls.proofs.AnswerLaws.{text-taken}
-use Rattle.checked_calls.specs.declared.answer.Answer.{Answer}
-use Rattle.checked_calls.specs.declared.answer.Answer.TheVariants as answer
-use Rattle.wire.proofs.Laws.{field-short}
+use Rattle.wire.proofs.Laws.{field_short}
 use Rattle.wire.specs.Name.{zero_from}
 use Rattle.wire.specs.declared.name.Name.{Name}
 use Rattle.streams.specs.declared.refusal.Refusal.{Refusal}
@@ -34,8 +33,6 @@ use Rattle.checked_calls.specs.Checks.{of_size_answer, function_over, id_over, t
 use Rattle.rules.specs.Places.{Near}
 use Rattle.checked_calls.specs.Kept.{Kept}
 use Rattle.checked_calls.proofs.CallsLaws.{function-over, id-over, type-over, size-over}
-use Rattle.checked_calls.specs.declared.calls.SizeAnswer.{SizeAnswer}
-use Rattle.checked_calls.specs.declared.calls.SizeAnswer.TheVariants as sized
 use Rattle.sheet.specs.Command.{command_at, command_by, given_name}
 use Rattle.sheet.proofs.LinesLaws.{told-refused, refused-length, text-length, size-length, numeral-length}
 use Rattle.sheet.specs.Line.{head, told_line, text_line, refused_line, outcome_line, size_line}
@@ -47,6 +44,8 @@ use Rattle.sheet.specs.declared.State.{State}
 use Rattle.sheet.specs.declared.Step.{Step}
 use Rattle.sheet.specs.declared.Step.TheVariants as step
 use Rattle.sheet.specs.declared.Printed.{Printed}
+use Rattle.streams.specs.Stream.{headed}
+use Rattle.streams.specs.Stream.{stands}
 
 -- A line at the start of a buffer, the rest as it was, and its length.
 pub record Whole (buf l : List ℕ) (out : List ℕ) (n : ℕ) : Type 0 where
@@ -77,14 +76,14 @@ module _ (n : ℕ) (buf out : List ℕ) where
   value_room (call.text bs k) h = let l = length-append bs (drop (length bs) buf) in omega arith
   value_room (call.stopped f) h = omega arith
 
-  module _ (o : call.Outcome) (a : Answer) (e : given out a ≡ laid buf o) (h : length out ≡ length buf) where
+  module _ (o : call.Outcome) (a : (Result ℕ Refusal)) (e : given out a ≡ laid buf o) (h : length out ≡ length buf) where
     told_is : of_answer a ≡ call.of_text o
     unfolding laid
-    told_is = ap (λ (r : Result). r.told) e
+    told_is = ap (λ (r : Left). r.told) e
 
     left_is : out ≡ call.buffer_after buf o
     unfolding laid
-    left_is = ap (λ (r : Result). r.buf) e
+    left_is = ap (λ (r : Left). r.buf) e
 
     pub answer-room : (of_answer a).value ≤ length buf
     answer-room = rw told_is (value_room o (ap length (sym left_is) ∙ h))
@@ -112,15 +111,23 @@ true-false e = let z : ◌≡◌ {A = ℕ} 0 1 = ap (λ (b : Bool). pick b 0 1) 
 abbrev inked : List ℕ → ℕ → List ℕ → List ℕ
 inked buf at l = take at buf ++ (l ++ drop (at + length l) buf)
 
-put-passed : (buf : List ℕ) (at : ℕ) (b : Bool) (l : List ℕ) → b ≡ true → put_of buf at b l ≡ placed buf at false
+-- A number for where a page stands, and 0 for none.
+abbrev seat : Placed → ℕ
+seat p = go p.at
+  where
+    go : Option ℕ → ℕ
+    go (Some n) = suc n
+    go None = 0
+
+put-passed : (buf : List ℕ) (at : ℕ) (b : Bool) (l : List ℕ) → b ≡ true → put_of buf at b l ≡ placed buf (Some at)
 unfolding put_of
 put-passed buf at b l e = rw e refl
 
-put-stuck : (buf : List ℕ) (at : ℕ) (b : Bool) (l : List ℕ) → b ≡ false → leb (length l) (length buf - at) ≡ false → put_of buf at b l ≡ placed buf at true
+put-stuck : (buf : List ℕ) (at : ℕ) (b : Bool) (l : List ℕ) → b ≡ false → leb (length l) (length buf - at) ≡ false → put_of buf at b l ≡ placed buf None
 unfolding put_of
 put-stuck buf at b l e f = rw (e, f) refl
 
-put-inked : (buf : List ℕ) (at : ℕ) (b : Bool) (l : List ℕ) → b ≡ false → leb (length l) (length buf - at) ≡ true → put_of buf at b l ≡ placed (inked buf at l) (at + length l) false
+put-inked : (buf : List ℕ) (at : ℕ) (b : Bool) (l : List ℕ) → b ≡ false → leb (length l) (length buf - at) ≡ true → put_of buf at b l ≡ placed (inked buf at l) (Some (at + length l))
 unfolding put_of
 put-inked buf at b l e f = rw (e, f) refl
 
@@ -189,38 +196,38 @@ module _ (out₀ : List ℕ) (skip : ℕ) (all : List (List ℕ)) where
           rw (g.so.buffer-is, g.so.length-is, k, m) (omega (arith, g.room))
 
       -- the next line does not fit
-      pub line-stuck : {r : Printed} {out₁ : List ℕ} {q : ℕ} → placed out₁ q true ≡ put_of out at (ltb n skip) l
-          → (r.bytes ≡ q) × ((r.lines ≡ n - skip) × (r.more ≡ true)) → shown out₁ r ≡ laid_out out₀ (fit (length out₀) (drop skip all))
-      line-stuck {r} {out₁} {q} e f = by (dec_lt n skip) (dec_le (length l) (length out - at))
+      pub line-stuck : {r : Printed} {out₁ : List ℕ} {o : Option ℕ} → o ≡ None → placed out₁ o ≡ put_of out at (ltb n skip) l
+          → (r.bytes ≡ at) × ((r.lines ≡ n - skip) × (r.more ≡ true)) → shown out₁ r ≡ laid_out out₀ (fit (length out₀) (drop skip all))
+      line-stuck {r} {out₁} {o} z e f = by (dec_lt n skip) (dec_le (length l) (length out - at))
         where
           by : Dec (n < skip) → Dec (length l ≤ length out - at) → shown out₁ r ≡ laid_out out₀ (fit (length out₀) (drop skip all))
-          by (yes h) d = absurd (let z : true ≡ false = ap (λ (x : Placed). x.full) (e ∙ put-passed out at (ltb n skip) l (lt-ltb n skip h)) in true-false z)
+          by (yes h) d = absurd (let x : 0 ≡ suc at = ap seat (rw z at e ∙ put-passed out at (ltb n skip) l (lt-ltb n skip h)) in omega arith)
           by (no h) (yes d) =
-              absurd (let z : true ≡ false = ap (λ (x : Placed). x.full) (e ∙ put-inked out at (ltb n skip) l (le-ltb n skip (omega arith)) (le-leb (length l) (length out - at) d)) in true-false z)
+              absurd (let x : 0 ≡ suc (at + length l) = ap seat (rw z at e ∙ put-inked out at (ltb n skip) l (le-ltb n skip (omega arith)) (le-leb (length l) (length out - at) d)) in omega arith)
           by (no h) (no d) =
-              let x : placed out₁ q true ≡ placed out at true = e ∙ put-stuck out at (ltb n skip) l (le-ltb n skip (omega arith)) (lt-leb (length l) (length out - at) (omega arith)) in
-              let b : out₁ ≡ out = ap (λ (y : Placed). y.buf) x in
-              let c : q ≡ at = ap (λ (y : Placed). y.at) x in
-              rw b (ended true r g (not-fits (length out₀ - length g.bs) l rest (skip - n) (omega arith) (rw (← room-is) (lt-leb (length l) (length out - at) (omega arith)))) (f.0 ∙ c, f.1))
+              let b : out₁ ≡ out = ap (λ (y : Placed). y.buf) (e ∙ put-stuck out at (ltb n skip) l (le-ltb n skip (omega arith)) (lt-leb (length l) (length out - at) (omega arith))) in
+              rw b (ended true r g (not-fits (length out₀ - length g.bs) l rest (skip - n) (omega arith) (rw (← room-is) (lt-leb (length l) (length out - at) (omega arith)))) f)
 
       -- the next line is passed over, or stands on the page
-      pub line-placed : {out₁ : List ℕ} {q : ℕ} → placed out₁ q false ≡ put_of out at (ltb n skip) l → Pending out₀ skip all out₁ q (n + 1) rest
-      line-placed {out₁} {q} e = by (dec_lt n skip) (dec_le (length l) (length out - at))
+      pub line-placed : {out₁ : List ℕ} {o : Option ℕ} {q : ℕ} → o ≡ Some q → placed out₁ o ≡ put_of out at (ltb n skip) l → Pending out₀ skip all out₁ q (n + 1) rest
+      line-placed {out₁} {o} {q} z e = by (dec_lt n skip) (dec_le (length l) (length out - at))
         where
           by : Dec (n < skip) → Dec (length l ≤ length out - at) → Pending out₀ skip all out₁ q (n + 1) rest
           by (yes h) d =
-              let x : placed out₁ q false ≡ placed out at false = e ∙ put-passed out at (ltb n skip) l (lt-ltb n skip h) in
+              let x : placed out₁ (Some q) ≡ placed out (Some at) = rw z at e ∙ put-passed out at (ltb n skip) l (lt-ltb n skip h) in
               let a : out₁ ≡ out = ap (λ (y : Placed). y.buf) x in
-              let c : q ≡ at = ap (λ (y : Placed). y.at) x in
+              let s : suc q ≡ suc at = ap seat x in
+              let c : q ≡ at = omega arith in
               let b : skip - n ≡ suc (skip - (n + 1)) = omega arith in
               let m : n - skip ≡ (n + 1) - skip = omega arith in
               record { bs = g.bs; so = rw (a, c) g.so; room = g.room; is = rw (b, m) at g.is }
           by (no h) (no d) =
-              absurd (let z : false ≡ true = ap (λ (x : Placed). x.full) (e ∙ put-stuck out at (ltb n skip) l (le-ltb n skip (omega arith)) (lt-leb (length l) (length out - at) (omega arith))) in true-false (sym z))
+              absurd (let x : suc q ≡ 0 = ap seat (rw z at e ∙ put-stuck out at (ltb n skip) l (le-ltb n skip (omega arith)) (lt-leb (length l) (length out - at) (omega arith))) in omega arith)
           by (no h) (yes d) =
-              let w : placed out₁ q false ≡ placed (inked out at l) (at + length l) false = e ∙ put-inked out at (ltb n skip) l (le-ltb n skip (omega arith)) (le-leb (length l) (length out - at) d) in
+              let w : placed out₁ (Some q) ≡ placed (inked out at l) (Some (at + length l)) = rw z at e ∙ put-inked out at (ltb n skip) l (le-ltb n skip (omega arith)) (le-leb (length l) (length out - at) d) in
               let a : out₁ ≡ inked out at l = ap (λ (y : Placed). y.buf) w in
-              let c : q ≡ at + length l = ap (λ (y : Placed). y.at) w in
+              let s : suc q ≡ suc (at + length l) = ap seat w in
+              let c : q ≡ at + length l = omega arith in
               let r = room-is in
               let k = length-append g.bs l in
               let x = does-fit (length out₀ - length g.bs) l rest (skip - n) (omega arith) (rw (← r) (le-leb (length l) (length out - at) d)) in
@@ -230,75 +237,6 @@ module _ (out₀ : List ℕ) (skip : ℕ) (all : List (List ℕ)) where
               let u : (length out₀ - length g.bs) - length l ≡ length out₀ - length (g.bs ++ l) = rw k (omega arith) in
               let o : skip - (n + 1) ≡ 0 = omega arith in
               record { bs = g.bs ++ l; so = rw (a, c) (inked-on l g.so g.room); room = rw k (omega (arith, g.room)); is = rw o (rw (v, u) at z) }
-
--- What each command does, and what holds behind it.
-module _ (c : Command) where
-  pub step_end : c ≡ End → step.Over ≡ step_of c
-  unfolding step_of
-  step_end e = rw e refl
-
-  module _ (n : ℕ) where
-    pub step-flags : c ≡ Flags n → step.Setting ≡ step_of c
-    unfolding step_of
-    step-flags e = rw e refl
-
-    pub step-pointer : c ≡ PointerSize n → step.Setting ≡ step_of c
-    unfolding step_of
-    step-pointer e = rw e refl
-
-    pub step-type : c ≡ TypeText n → step.Line ≡ step_of c
-    unfolding step_of
-    step-type e = rw e refl
-
-    pub step-size : c ≡ TypeSize n → step.Line ≡ step_of c
-    unfolding step_of
-    step-size e = rw e refl
-
-    pub step-id : c ≡ IdText n → step.Line ≡ step_of c
-    unfolding step_of
-    step-id e = rw e refl
-
-    pub step-function : c ≡ FunctionText n → step.Line ≡ step_of c
-    unfolding step_of
-    step-function e = rw e refl
-
-    pub step-faulty : c ≡ Faulty n → step.Last n ≡ step_of c
-    unfolding step_of
-    step-faulty e = rw e refl
-
-module _ (s : State) (c : Command) where
-  pub after-end : c ≡ End → behind_of s 5 ≡ after_of s c
-  unfolding after_of
-  after-end e = rw e refl
-
-  module _ (n : ℕ) where
-    pub after-flags : c ≡ Flags n → record { at = s.at + 5; lines = s.lines; flags = n; size = s.size } ≡ after_of s c
-    unfolding after_of
-    after-flags e = rw e refl
-
-    pub after-pointer : c ≡ PointerSize n → record { at = s.at + 2; lines = s.lines; flags = s.flags; size = n } ≡ after_of s c
-    unfolding after_of
-    after-pointer e = rw e refl
-
-    pub after-type : c ≡ TypeText n → behind_of s 5 ≡ after_of s c
-    unfolding after_of
-    after-type e = rw e refl
-
-    pub after-size : c ≡ TypeSize n → behind_of s 5 ≡ after_of s c
-    unfolding after_of
-    after-size e = rw e refl
-
-    pub after-id : c ≡ IdText n → behind_of s 5 ≡ after_of s c
-    unfolding after_of
-    after-id e = rw e refl
-
-    pub after-function : c ≡ FunctionText n → behind_of s 21 ≡ after_of s c
-    unfolding after_of
-    after-function e = rw e refl
-
-    pub after-faulty : c ≡ Faulty n → behind_of s 5 ≡ after_of s c
-    unfolding after_of
-    after-faulty e = rw e refl
 
 -- how many lines a step counts
 abbrev counts : Step → ℕ
@@ -345,34 +283,9 @@ awake sheet at h = by (dec_le (at + 1) (length sheet))
     by (yes k) = omega arith
     by (no k) =
         absurd
-        (let e : End ≡ command_at sheet at = field-short 1 sheet at (command_by sheet (at + 1)) End (omega arith) in
+        (let e : End ≡ command_at sheet at = field_short 1 sheet at (command_by sheet (at + 1)) End (omega arith) in
         let z : 0 ≡ runs (step_of (command_at sheet at)) = ap (λ c. runs (step_of c)) e in
         omega arith)
-
--- which of its kinds a step is
-abbrev kind : Step → ℕ
-kind step.Over = 0
-kind step.Setting = 1
-kind (step.Last b) = 2
-kind step.Line = 3
-
-abbrev last_byte : Step → ℕ
-last_byte step.Over = 0
-last_byte step.Setting = 0
-last_byte (step.Last b) = b
-last_byte step.Line = 0
-
--- the line of the step that ends the run
-last_line : (k : Calls) (sheet : List ℕ) (s : State) (c : Command) (b : ℕ) → step_of c ≡ step.Last b → refused_line (s.lines + 1) (UnknownCommand b) ≡ line_of k sheet s c
-unfolding step_of line_of
-last_line k sheet s End b e = absurd (let z : 0 ≡ 2 = ap kind e in omega arith)
-last_line k sheet s (Flags n) b e = absurd (let z : 1 ≡ 2 = ap kind e in omega arith)
-last_line k sheet s (PointerSize n) b e = absurd (let z : 1 ≡ 2 = ap kind e in omega arith)
-last_line k sheet s (TypeText n) b e = absurd (let z : 3 ≡ 2 = ap kind e in omega arith)
-last_line k sheet s (TypeSize n) b e = absurd (let z : 3 ≡ 2 = ap kind e in omega arith)
-last_line k sheet s (IdText n) b e = absurd (let z : 3 ≡ 2 = ap kind e in omega arith)
-last_line k sheet s (FunctionText n) b e = absurd (let z : 3 ≡ 2 = ap kind e in omega arith)
-last_line k sheet s (Faulty n) b e = let z : n ≡ b = ap last_byte e in rw z refl
 
 -- The run of a sheet so far: the lines to come are those from its state on.
 pub record Going (k : Calls) (sheet out₀ : List ℕ) (skip : ℕ) (out : List ℕ) (at : ℕ) (s : State) : Type 0 where
@@ -387,7 +300,7 @@ unfolding put_of
 same-put buf at x l h = by x (dec_le (length l) (length buf - at))
   where
     by : (x : Bool) → Dec (length l ≤ length buf - at)
-        → length (pick x (placed buf at false) (pick (leb (length l) (length buf - at)) (placed (inked buf at l) (at + length l) false) (placed buf at true))).buf ≡ length buf
+        → length (pick x (placed buf (Some at)) (pick (leb (length l) (length buf - at)) (placed (inked buf at l) (Some (at + length l))) (placed buf None))).buf ≡ length buf
     by true d = refl
     by false (yes d) =
         rw (le-leb (length l) (length buf - at) d)
@@ -410,8 +323,8 @@ module _ (k : Calls) (sheet out₀ : List ℕ) (skip : ℕ) where
   pub going-at : {out : List ℕ} {at : ℕ} {s : State} → Going k sheet out₀ skip out at s → at ≤ length out
   going-at g = pending-at out₀ skip (lines_by k sheet) g.pending
 
-  pub put-length : {out out₁ : List ℕ} {at q : ℕ} {s : State} {b : Bool} (x : Bool) (l : List ℕ) → Going k sheet out₀ skip out at s
-      → placed out₁ q b ≡ put_of out at x l → length out₁ ≡ length out₀
+  pub put-length : {out out₁ : List ℕ} {at : ℕ} {s : State} {o : Option ℕ} (x : Bool) (l : List ℕ) → Going k sheet out₀ skip out at s
+      → placed out₁ o ≡ put_of out at x l → length out₁ ≡ length out₀
   put-length {out} {out₁} {at} x l g e = ap (λ (y : Placed). length y.buf) e ∙ same-put out at x l (going-at g) ∙ going-length g
 
   pub going-first : length sheet < 9223372036854775808 → Going k sheet out₀ skip out₀ 0 begin
@@ -485,45 +398,42 @@ module _ (k : Calls) (sheet out₀ : List ℕ) (skip : ℕ) where
     going-set i h = rw i (set-goes h)
 
     -- a line that was passed over or stands on the page
-    line-goes : {out₁ : List ℕ} {q : ℕ} → r ≡ step.Line → placed out₁ q false ≡ put_of out at (ltb s.lines skip) (line_of k sheet s c)
+    line-goes : {out₁ : List ℕ} {o : Option ℕ} {q : ℕ} → r ≡ step.Line → o ≡ Some q → placed out₁ o ≡ put_of out at (ltb s.lines skip) (line_of k sheet s c)
         → Going k sheet out₀ skip out₁ q (after_of s c)
-    line-goes h x =
+    line-goes h z x =
         let i : 1 ≤ runs r = rw h (omega arith) in
         let n : s.lines + 1 ≡ (after_of s c).lines = sym (lines_after ∙ ap (λ x. s.lines + counts x) h) in
         let a = after-at s c in
         let l = lefter i in
         record {
           left = g.left - 1;
-          pending = pending-as out₀ skip (lines_by k sheet) n (line-placed out₀ skip (lines_by k sheet) (rw h at (come i)) x);
+          pending = pending-as out₀ skip (lines_by k sheet) n (line-placed out₀ skip (lines_by k sheet) (rw h at (come i)) z x);
           enough = omega (arith, g.enough);
           low = omega (arith, g.low);
           short = g.short;
         }
 
-    pub going-line : {s₁ : State} {out₁ : List ℕ} {q : ℕ} → s₁ ≡ after_of s c → r ≡ step.Line
-        → placed out₁ q false ≡ put_of out at (ltb s.lines skip) (line_of k sheet s c) → Going k sheet out₀ skip out₁ q s₁
-    going-line i h x = rw i (line-goes h x)
+    pub going-line : {s₁ : State} {out₁ : List ℕ} {o : Option ℕ} {q : ℕ} → s₁ ≡ after_of s c → r ≡ step.Line → o ≡ Some q
+        → placed out₁ o ≡ put_of out at (ltb s.lines skip) (line_of k sheet s c) → Going k sheet out₀ skip out₁ q s₁
+    going-line i h z x = rw i (line-goes h z x)
 
     -- a line without room
-    pub line-full : {out₁ : List ℕ} {q : ℕ} {d : Printed} → r ≡ step.Line → placed out₁ q true ≡ put_of out at (ltb s.lines skip) (line_of k sheet s c)
-        → (d.bytes ≡ q) × ((d.lines ≡ s.lines - skip) × (d.more ≡ true)) → shown out₁ d ≡ laid_out out₀ (fit (length out₀) (drop skip (lines_by k sheet)))
-    line-full h x y = line-stuck out₀ skip (lines_by k sheet) (rw h at (come (rw h (omega arith)))) x y
+    pub line-full : {out₁ : List ℕ} {o : Option ℕ} {d : Printed} → r ≡ step.Line → o ≡ None → placed out₁ o ≡ put_of out at (ltb s.lines skip) (line_of k sheet s c)
+        → (d.bytes ≡ at) × ((d.lines ≡ s.lines - skip) × (d.more ≡ true)) → shown out₁ d ≡ laid_out out₀ (fit (length out₀) (drop skip (lines_by k sheet)))
+    line-full h z x y = line-stuck out₀ skip (lines_by k sheet) (rw h at (come (rw h (omega arith)))) z x y
 
     -- the line of a faulty command, which is the last
     module _ {b : ℕ} (h : r ≡ step.Last b) where
-      as-put : {x : Placed} → x ≡ put_of out at (ltb s.lines skip) (refused_line (s.lines + 1) (UnknownCommand b)) → x ≡ put_of out at (ltb s.lines skip) (line_of k sheet s c)
-      as-put x = x ∙ ap (put_of out at (ltb s.lines skip)) (last_line k sheet s c b (sym f ∙ h))
-
       last-come : Pending out₀ skip (lines_by k sheet) out at s.lines (line_of k sheet s c ∷ [])
       last-come = rw h at (come (rw h (omega arith)))
 
-      pub going-last : {out₁ : List ℕ} {q : ℕ} {d : Printed} → placed out₁ q false ≡ put_of out at (ltb s.lines skip) (refused_line (s.lines + 1) (UnknownCommand b))
+      pub going-last : {out₁ : List ℕ} {o : Option ℕ} {q : ℕ} {d : Printed} → o ≡ Some q → placed out₁ o ≡ put_of out at (ltb s.lines skip) (line_of k sheet s c)
           → (d.bytes ≡ q) × ((d.lines ≡ (s.lines + 1) - skip) × (d.more ≡ false)) → shown out₁ d ≡ laid_out out₀ (fit (length out₀) (drop skip (lines_by k sheet)))
-      going-last x y = all_shown out₀ skip (lines_by k sheet) (line-placed out₀ skip (lines_by k sheet) last-come (as-put x)) y
+      going-last z x y = all_shown out₀ skip (lines_by k sheet) (line-placed out₀ skip (lines_by k sheet) last-come z x) y
 
-      pub last-full : {out₁ : List ℕ} {q : ℕ} {d : Printed} → placed out₁ q true ≡ put_of out at (ltb s.lines skip) (refused_line (s.lines + 1) (UnknownCommand b))
-          → (d.bytes ≡ q) × ((d.lines ≡ s.lines - skip) × (d.more ≡ true)) → shown out₁ d ≡ laid_out out₀ (fit (length out₀) (drop skip (lines_by k sheet)))
-      last-full x y = line-stuck out₀ skip (lines_by k sheet) last-come (as-put x) y
+      pub last-full : {out₁ : List ℕ} {o : Option ℕ} {d : Printed} → o ≡ None → placed out₁ o ≡ put_of out at (ltb s.lines skip) (line_of k sheet s c)
+          → (d.bytes ≡ at) × ((d.lines ≡ s.lines - skip) × (d.more ≡ true)) → shown out₁ d ≡ laid_out out₀ (fit (length out₀) (drop skip (lines_by k sheet)))
+      last-full z x y = line-stuck out₀ skip (lines_by k sheet) last-come z x y
 
 -- The fields before a text or a size, and the line that they make with it.
 decimal-zero : decimal 0 ≡ bytes "0"
@@ -565,31 +475,31 @@ text-placed line headed number at n h i j m e =
 
 -- The line of a text, and of a size, by the answer.
 module _ (number : ℕ) (line : List ℕ) {l : List ℕ} where
-  pub text-said : (a : Answer) {n : ℕ} → a ≡ answer.Text n → l ≡ text_line number (take n (drop 27 line)) → l ≡ answer_line number (drop 27 line) (of_answer a)
+  pub text-said : (a : (Result ℕ Refusal)) {n : ℕ} → a ≡ Ok n → l ≡ text_line number (take n (drop 27 line)) → l ≡ answer_line number (drop 27 line) (of_answer a)
   unfolding answer_line of_answer text_line told_line
   text-said a e w = rw e w
 
-  pub refusal-said : (a : Answer) {f : Refusal} → a ≡ answer.Refused f → l ≡ refused_line number f → l ≡ answer_line number (drop 27 line) (of_answer a)
+  pub refusal-said : (a : (Result ℕ Refusal)) {f : Refusal} → a ≡ Err f → l ≡ refused_line number f → l ≡ answer_line number (drop 27 line) (of_answer a)
   unfolding answer_line of_answer refused_line
   refusal-said a e w = rw e w
 
-size-told : (number : ℕ) (a : SizeAnswer) {n : ℕ} → a ≡ sized.Bytes n → text_line number (decimal n) ≡ size_line number (of_size_answer a)
+size-told : (number : ℕ) (a : (Result ℕ Refusal)) {n : ℕ} → a ≡ Ok n → text_line number (decimal n) ≡ size_line number (of_size_answer a)
 unfolding size_line of_size_answer text_line told_line
 size-told number a e = rw e refl
 
-pub size-refused : (number : ℕ) {l : List ℕ} (a : SizeAnswer) {f : Refusal} → a ≡ sized.Refused f → l ≡ refused_line number f → l ≡ size_line number (of_size_answer a)
+pub size-refused : (number : ℕ) {l : List ℕ} (a : (Result ℕ Refusal)) {f : Refusal} → a ≡ Err f → l ≡ refused_line number f → l ≡ size_line number (of_size_answer a)
 unfolding size_line of_size_answer
 size-refused number a {f} e w = rw (e, told-refused number f (decimal 0)) w
 
 -- the digits of a size stand behind place 27
-pub size-said : (number : ℕ) (line out rest : List ℕ) (a : SizeAnswer) {l buf : List ℕ} {n at : ℕ} → a ≡ sized.Bytes n → 27 ≤ length line → Whole buf (decimal n) out at
+pub size-said : (number : ℕ) (line out rest : List ℕ) (a : (Result ℕ Refusal)) {l buf : List ℕ} {n at : ℕ} → a ≡ Ok n → 27 ≤ length line → Whole buf (decimal n) out at
     → l ≡ text_line number (take at (drop 27 (take 27 line ++ (out ++ rest)))) → l ≡ size_line number (of_size_answer a)
 size-said number line out rest a {buf = buf} {n = n} {at = at} e h w f =
     let d : drop 27 (take 27 line ++ (out ++ rest)) ≡ out ++ rest = drop_at (take 27 line) (out ++ rest) 27 (length-take-le 27 line h) in
     let i : at ≤ length out = rw (w.length-is, w.buffer-is, length-append (decimal n) (drop (length (decimal n)) buf)) (omega arith) in
     f ∙ ap (text_line number) (ap (take at) d ∙ take-append-le at out rest i ∙ whole-taken w) ∙ size-told number a e
 
-pub answer-low : (a : Answer) {n m : ℕ} → a ≡ answer.Text n → (of_answer a).value ≤ m → n ≤ m
+pub answer-low : (a : (Result ℕ Refusal)) {n m : ℕ} → a ≡ Ok n → (of_answer a).value ≤ m → n ≤ m
 unfolding of_answer
 answer-low a e h = rw e at h
 
@@ -631,25 +541,16 @@ module _ (line : List ℕ) (h : length line ≡ 4124) where
   part_length = length-take-le 4096 (drop 27 line) (omega (arith, length-drop 27 line))
 
   module _ (out : List ℕ) where
-    mid-length : length out ≡ 4096 → length (take 27 line ++ (out ++ drop 4096 (drop 27 line))) ≡ 4124
-    mid-length e =
-        let i = length-append (take 27 line) (out ++ drop 4096 (drop 27 line)) in
-        let j = length-append out (drop 4096 (drop 27 line)) in
-        let m = length-take-le 27 line (omega arith) in
-        let n = length-drop 27 line in
-        let o = length-drop 4096 (drop 27 line) in
-        omega arith
-
-    pub answer-fits : (o : call.Outcome) (a : Answer) → given out a ≡ laid (take 4096 (drop 27 line)) o → length out ≡ length (take 4096 (drop 27 line))
-        → (length (take 27 line ++ (out ++ drop 4096 (drop 27 line))) ≡ 4124) × ((of_answer a).value ≤ 4096)
-    answer-fits o a e f = let k = answer-room 0 (take 4096 (drop 27 line)) out o a e f in let m = part_length in (mid-length (f ∙ m), omega arith)
+    pub answer-fits : (o : call.Outcome) (a : (Result ℕ Refusal)) → given out a ≡ laid (take 4096 (drop 27 line)) o → length out ≡ length (take 4096 (drop 27 line))
+        → (of_answer a).value ≤ 4096
+    answer-fits o a e f = let k = answer-room 0 (take 4096 (drop 27 line)) out o a e f in let m = part_length in omega arith
 
     module _ (n : ℕ) {p q : Pen} (e : p ≡ started 4096) (w : Wrote (page (take 4096 (drop 27 line)) p) (writing (decimal n)) (page out q)) where
       pub size-whole : Whole (take 4096 (drop 27 line)) (decimal n) out q.at
       size-whole = line-whole (e ∙ ap started (sym part_length)) w (let k = digits_low n in let m = part_length in omega arith)
 
-      pub size_fits : length out ≡ length (take 4096 (drop 27 line)) → (length (take 27 line ++ (out ++ drop 4096 (drop 27 line))) ≡ 4124) × (q.at ≤ 4096)
-      size_fits f = let k = digits_low n in let l = size-whole.length-is in (mid-length (f ∙ part_length), omega arith)
+      pub size_fits : q.at ≤ 4096
+      size_fits = let k = digits_low n in let l = size-whole.length-is in omega arith
 
 -- What the calls answer in it.
 module _ (types : List ℕ) (v : Near) (flags size : ℕ) where
@@ -662,64 +563,9 @@ module _ (types : List ℕ) (v : Near) (flags size : ℕ) where
   pub id-room : (ids : List ℕ) (i : ℕ) {room : ℕ} → room ≡ 4096 → id_over types ids v flags size i room ≡ id_over types ids v flags size i 4096
   id-room ids i e = rw e refl
 
--- No line at all.
-pub named_none : (line : List ℕ) (n : Name) {l : List ℕ} → n.len ≡ 0 → [] ≡ l → name_at line n ≡ l
-unfolding name_at
-named_none line n e f = rw e f
-
--- The line of each kind of command.
-module _ (k : Calls) (sheet : List ℕ) (s : State) (c : Command) where
-  pub line-end : c ≡ End → [] ≡ line_of k sheet s c
-  unfolding line_of
-  line-end e = rw e refl
-
-  module _ (n : ℕ) where
-    pub line-flags : c ≡ Flags n → [] ≡ line_of k sheet s c
-    unfolding line_of
-    line-flags e = rw e refl
-
-    pub line-pointer : c ≡ PointerSize n → [] ≡ line_of k sheet s c
-    unfolding line_of
-    line-pointer e = rw e refl
-
-    pub line-type : c ≡ TypeText n → outcome_line (s.lines + 1) (k.type_text s.flags s.size n) ≡ line_of k sheet s c
-    unfolding line_of
-    line-type e = rw e refl
-
-    pub line-size : c ≡ TypeSize n → size_line (s.lines + 1) (call.of_size (k.type_size s.size n)) ≡ line_of k sheet s c
-    unfolding line_of
-    line-size e = rw e refl
-
-    pub line-id : c ≡ IdText n → outcome_line (s.lines + 1) (k.id s.flags s.size n) ≡ line_of k sheet s c
-    unfolding line_of
-    line-id e = rw e refl
-
-    pub line-function : c ≡ FunctionText n → function_line k sheet s n ≡ line_of k sheet s c
-    unfolding line_of
-    line-function e = rw e refl
-
-    pub line-faulty : c ≡ Faulty n → refused_line (s.lines + 1) (UnknownCommand n) ≡ line_of k sheet s c
-    unfolding line_of
-    line-faulty e = rw e refl
-
-pub full-as : {buf : List ℕ} {at : ℕ} {b c : Bool} {x : Placed} → b ≡ c → placed buf at b ≡ x → placed buf at c ≡ x
-full-as e f = rw (← e) f
-
--- A line on the page: passed over, without room, or written.
-module _ (buf : List ℕ) (at : ℕ) where
-  pub passed : (l : List ℕ) (n skip : ℕ) → n < skip → placed buf at false ≡ put_of buf at (ltb n skip) l
-  passed l n skip h = sym (put-passed buf at (ltb n skip) l (lt-ltb n skip h))
-
-  pub stuck : (l : List ℕ) → length buf - at < length l → placed buf at true ≡ put_of buf at false l
-  stuck l h = sym (put-stuck buf at false l refl (lt-leb (length l) (length buf - at) h))
-
-  pub written : (l out : List ℕ) (k : ℕ) → length l ≤ length buf - at → k ≡ length l → out ≡ l → placed (take at buf ++ (out ++ drop k (drop at buf))) (at + length l) false ≡ put_of buf at false l
-  written l out k h e f =
-      let d : drop k (drop at buf) ≡ drop (at + length l) buf = drop-drop k at buf ∙ ap (λ n. drop (at + n) buf) e in
-      rw (d, f) (sym (put-inked buf at false l refl (le-leb (length l) (length buf - at) h)))
-
-  pub put_as : {l m : List ℕ} {n skip : ℕ} {x : Placed} → skip ≤ n → l ≡ m → x ≡ put_of buf at false l → x ≡ put_of buf at (ltb n skip) m
-  put_as {l} {m} {n} {skip} h e f = rw (le-ltb n skip h, ← e) f
+-- A line is passed over where it was printed before.
+pub passed : (buf : List ℕ) (at n skip : ℕ) (l : List ℕ) → n < skip → placed buf (Some at) ≡ put_of buf at (ltb n skip) l
+passed buf at n skip l h = sym (put-passed buf at (ltb n skip) l (lt-ltb n skip h))
 
 -- Nothing is lost.
 abbrev next_fit : List ℕ → Fit → Bool → Fit

@@ -1,25 +1,24 @@
 -- What `print_sheet` leaves: the buffer and the counts.
-use Rattle.std.specs.Prelude.{ℕ, ◌+◌, ◌-◌, ◌≤◌, ◌<◌, Bool, true, false, List, [], ◌∷◌, ◌++◌, ◌≡◌, leb, ltb, length, take, drop}
+use Rattle.std.specs.Prelude.{ℕ, ◌+◌, ◌-◌, ◌≤◌, ◌<◌, Bool, true, false, List, [], ◌∷◌, ◌++◌, ◌≡◌, leb, ltb, length, take, drop, Option, Some, None}
 use Rattle.wire.specs.Field.{pick}
 use Rattle.rules.specs.Places.{Near}
 use Rattle.sheet.specs.Sheet.{Fit, sheet_lines, sheet_fit, lines_over, fit_over}
 use Rattle.sheet.specs.declared.Printed.{Printed}
 use Rattle.sheet.specs.declared.State.{State}
 
--- A buffer with how many bytes of it are printed, and whether there was no room for a line.
+-- A buffer with how many bytes of it are printed; none, where there was no room for a line.
 pub record Placed : Type 0 where
   pub buf : List ℕ
-  pub at : ℕ
-  pub full : Bool
+  pub at : Option ℕ
 
-abbrev pub placed : List ℕ → ℕ → Bool → Placed
-placed buf at full = record { buf = buf; at = at; full = full }
+abbrev pub placed : List ℕ → Option ℕ → Placed
+placed buf at = record { buf = buf; at = at }
 
 -- A line is left out where it was printed before, and where there is no room for the whole of it.
 unfoldable pub put_of : List ℕ → ℕ → Bool → List ℕ → Placed
 put_of buf at before l =
-    pick before (placed buf at false)
-    (pick (leb (length l) (length buf - at)) (placed (take at buf ++ (l ++ drop (at + length l) buf)) (at + length l) false) (placed buf at true))
+    pick before (placed buf (Some at))
+    (pick (leb (length l) (length buf - at)) (placed (take at buf ++ (l ++ drop (at + length l) buf)) (Some (at + length l))) (placed buf None))
 
 -- The buffer at exit with the counts, and what they are of the lines that fit.
 pub record Shown : Type 0 where

@@ -2,11 +2,9 @@
 #![tactic(auto)]
 
 ghost use Rattle.std.specs.Prelude.{◌≡◌, false, ◌+◌, ◌-◌, ◌≤◌, ◌<◌, ltb, length};
-ghost use Rattle.rules.specs.Places.{near};
+ghost use Rattle.rules.specs.Places.{near_in};
 ghost use Rattle.rules.specs.Record.{name_at};
-ghost use Rattle.streams.specs.declared.refusal.Refusal.TheVariants.{UnknownCommand};
 ghost use Rattle.sheet.specs.Command.{given_name};
-ghost use Rattle.sheet.specs.Line.{refused_line};
 ghost use Rattle.sheet.specs.Sheet.{begin, after_of, behind_of, step_of, calls_over, function_line, line_of, sheet_fit, fit_over};
 ghost use Rattle.sheet.specs.Printed.{placed, put_of, shown, laid_out, SheetContinues, ContinuesOver, Countable};
 
@@ -15,9 +13,9 @@ use crate::line::{answer_line, refused_line, size_line};
 use checked_calls::calls::{function_over, id_over, size_over, type_over};
 use checked_calls::kept::keep_both;
 use codeview::index::{IdIndex, TypeIndex};
+use codeview::lent::Lent;
 use leaf_writers::names::name_of;
 use streams::refusal::Refusal;
-use wire::bytes::copy;
 use wire::name::Name;
 
 pub mod command;
@@ -41,13 +39,6 @@ pub enum Step {
     Line,
 }
 
-// How many bytes are printed after a line, and whether there was no room for it.
-#[derive(Clone, Copy)]
-pub struct Put {
-    pub at: usize,
-    pub full: bool,
-}
-
 // How many bytes and lines were printed, and whether lines are left that did not fit.
 #[derive(Clone, Copy)]
 pub struct Printed {
@@ -56,18 +47,15 @@ pub struct Printed {
     pub more: bool,
 }
 
+#[tactic(auto, unfolding(crate::specs::Sheet::step_of))]
 fn step_of(c: Command) -> Step
     ensures { result ≡ step_of c }
 {
     match c {
         Command::End => Step::Over,
-        Command::Flags(n) => Step::Setting,
-        Command::PointerSize(n) => Step::Setting,
-        Command::TypeText(i) => Step::Line,
-        Command::TypeSize(i) => Step::Line,
-        Command::IdText(i) => Step::Line,
-        Command::FunctionText(i) => Step::Line,
+        Command::Flags(_) | Command::PointerSize(_) => Step::Setting,
         Command::Faulty(b) => Step::Last(b),
+        _ => Step::Line,
     }
 }
 
@@ -79,12 +67,12 @@ fn behind(s: State, width: usize) -> State
     State {
         at: s.at + width,
         lines: s.lines + 1,
-        flags: s.flags,
-        size: s.size,
+        ..s
     }
 }
 
 // Behind any command.
+#[tactic(auto, unfolding(crate::specs::Sheet::after_of))]
 fn after(s: State, c: Command) -> State
     requires { Countable s }
     ensures { result ≡ after_of s c }
@@ -92,38 +80,25 @@ fn after(s: State, c: Command) -> State
     match c {
         Command::Flags(n) => State {
             at: s.at + 5,
-            lines: s.lines,
             flags: n,
-            size: s.size,
+            ..s
         },
         Command::PointerSize(n) => State {
             at: s.at + 2,
-            lines: s.lines,
-            flags: s.flags,
             size: n,
+            ..s
         },
-        Command::FunctionText(i) => behind(s, 21),
-        Command::TypeText(i) => behind(s, 5),
-        Command::TypeSize(i) => behind(s, 5),
-        Command::IdText(i) => behind(s, 5),
-        Command::Faulty(b) => behind(s, 5),
-        Command::End => behind(s, 5),
+        Command::FunctionText(_) => behind(s, 21),
+        _ => behind(s, 5),
     }
 }
 
 fn done(bytes: usize, lines: usize, skip: usize, more: bool) -> Printed
     ensures { (result.bytes ≡ bytes) × ((result.lines ≡ lines - skip) × (result.more ≡ more)) }
 {
-    if lines < skip {
-        return Printed {
-            bytes,
-            lines: 0,
-            more,
-        };
-    }
     Printed {
         bytes,
-        lines: lines - skip,
+        lines: lines.saturating_sub(skip),
         more,
     }
 }
@@ -149,24 +124,13 @@ fn no_line() -> Name
 }
 
 // The line of a function command.
-fn function_line(
-    types: &[u8],
-    ids: &[u8],
-    sheet: &[u8],
-    bounds: &[u32],
-    places: &[u32],
-    line: &mut [u8],
-    s: State,
-    index: u32,
-) -> Name
-    requires { (length line.old ≡ 4124) × Countable s }
-    ensures { name_at line.new result ≡ function_line (calls_over types.now ids.now (near bounds.now places.now)) sheet.now s index }
+fn function_line(lent: &Lent, sheet: &[u8], line: &mut [u8; 4124], s: State, index: u32) -> Name
+    requires { Countable s }
+    ensures { name_at line.new result ≡ function_line (calls_over lent.now.types.now lent.now.ids.now (near_in lent.now)) sheet.now s index }
 {
     let name = given_name(sheet, s.at + 5);
     let a = function_over(
-        types,
-        bounds,
-        places,
+        lent,
         &mut line[27..4123],
         s.flags,
         s.size,
@@ -177,106 +141,66 @@ fn function_line(
 }
 
 // The line of a command; of a command with no line, nothing. A text call writes to its place in the line.
-fn line_of(
-    types: &[u8],
-    ids: &[u8],
-    sheet: &[u8],
-    bounds: &[u32],
-    places: &[u32],
-    line: &mut [u8],
-    s: State,
-    c: Command,
-) -> Name
-    requires { (length line.old ≡ 4124) × Countable s }
-    ensures { name_at line.new result ≡ line_of (calls_over types.now ids.now (near bounds.now places.now)) sheet.now s c }
+#[tactic(auto, unfolding(crate::specs::Sheet::line_of, rules::specs::Record::name_at))]
+fn line_of(lent: &Lent, sheet: &[u8], line: &mut [u8; 4124], s: State, c: Command) -> Name
+    requires { Countable s }
+    ensures { name_at line.new result ≡ line_of (calls_over lent.now.types.now lent.now.ids.now (near_in lent.now)) sheet.now s c }
 {
     let number = (s.lines + 1) as u64;
     match c {
         Command::TypeText(i) => {
             let text = &mut line[27..4123];
-            let a = type_over(types, bounds, places, text, s.flags, s.size, TypeIndex(i));
+            let a = type_over(lent, text, s.flags, s.size, TypeIndex(i));
             answer_line(line, number, a)
         }
         Command::IdText(i) => {
             let text = &mut line[27..4123];
-            let a = id_over(
-                types,
-                ids,
-                bounds,
-                places,
-                text,
-                s.flags,
-                s.size,
-                IdIndex(i),
-            );
+            let a = id_over(lent, text, s.flags, s.size, IdIndex(i));
             answer_line(line, number, a)
         }
-        Command::FunctionText(i) => function_line(types, ids, sheet, bounds, places, line, s, i),
+        Command::FunctionText(i) => function_line(lent, sheet, line, s, i),
         Command::TypeSize(i) => {
-            let a = size_over(types, bounds, places, s.size, TypeIndex(i));
+            let a = size_over(lent, s.size, TypeIndex(i));
             size_line(line, number, a)
         }
-        Command::Faulty(b) => refused_line(line, number, Refusal::UnknownCommand(b as u32)),
-        Command::End => no_line(),
-        Command::Flags(n) => no_line(),
-        Command::PointerSize(n) => no_line(),
+        Command::Faulty(b) => refused_line(line, number, Refusal::UnknownCommand(u32::from(b))),
+        Command::End | Command::Flags(_) | Command::PointerSize(_) => no_line(),
     }
 }
 
-// A line on the page, unless it does not fit.
-fn put_bytes(out: &mut [u8], at: usize, bs: &[u8]) -> Put
+// A line on the page, unless it does not fit: how many bytes are printed after it.
+#[tactic(auto, unfolding(crate::specs::Printed::put_of))]
+fn put_bytes(out: &mut [u8], at: usize, bs: &[u8]) -> Option<usize>
     requires { at ≤ length out.old }
-    ensures { placed out.new result.at result.full ≡ put_of out.old at false bs.now }
+    ensures { placed out.new result ≡ put_of out.old at false bs.now }
 {
     let n = bs.len();
     if n > out.len() - at {
-        return Put { at, full: true };
+        return None;
     }
     let end = at + n;
-    copy(&mut out[at..end], bs);
-    Put {
-        at: end,
-        full: false,
-    }
+    out[at..end].copy_from_slice(bs);
+    Some(end)
 }
 
 // The line of a command, unless it was printed before or does not fit.
 fn put_line(
-    types: &[u8],
-    ids: &[u8],
+    lent: &Lent,
     sheet: &[u8],
-    bounds: &[u32],
-    places: &[u32],
-    line: &mut [u8],
+    line: &mut [u8; 4124],
     out: &mut [u8],
     at: usize,
     s: State,
     c: Command,
     skip: usize,
-) -> Put
-    requires { (length line.old ≡ 4124) × ((at ≤ length out.old) × Countable s) }
-    ensures { placed out.new result.at result.full ≡ put_of out.old at (ltb s.lines skip) (line_of (calls_over types.now ids.now (near bounds.now places.now)) sheet.now s c) }
+) -> Option<usize>
+    requires { (at ≤ length out.old) × Countable s }
+    ensures { placed out.new result ≡ put_of out.old at (ltb s.lines skip) (line_of (calls_over lent.now.types.now lent.now.ids.now (near_in lent.now)) sheet.now s c) }
 {
     if s.lines < skip {
-        return Put { at, full: false };
+        return Some(at);
     }
-    let n = line_of(types, ids, sheet, bounds, places, line, s, c);
-    put_bytes(out, at, name_of(line, n))
-}
-
-// The last line, that of an unknown or cut command.
-fn put_last(line: &mut [u8], out: &mut [u8], at: usize, lines: usize, byte: u8, skip: usize) -> Put
-    requires { (length line.old ≡ 4124) × ((at ≤ length out.old) × (lines < 9223372036854775808)) }
-    ensures { placed out.new result.at result.full ≡ put_of out.old at (ltb lines skip) (refused_line (lines + 1) (UnknownCommand byte)) }
-{
-    if lines < skip {
-        return Put { at, full: false };
-    }
-    let n = refused_line(
-        line,
-        (lines + 1) as u64,
-        Refusal::UnknownCommand(byte as u32),
-    );
+    let n = line_of(lent, sheet, line, s, c);
     put_bytes(out, at, name_of(line, n))
 }
 
@@ -293,17 +217,13 @@ fn first_state() -> State
 
 // The lines of a sheet on the page from its start. The buffer of a line is lent to every line.
 fn put_lines(
-    types: &[u8],
-    ids: &[u8],
+    lent: &Lent,
     sheet: &[u8],
-    bounds: &[u32],
-    places: &[u32],
-    line: &mut [u8],
+    line: &mut [u8; 4124],
     out: &mut [u8],
     skip: usize,
 ) -> Printed
-    requires { length line.old ≡ 4124 }
-    ensures { shown out.new result ≡ laid_out out.old (fit_over types.now ids.now (near bounds.now places.now) sheet.now skip (length out.old)) }
+    ensures { shown out.new result ≡ laid_out out.old (fit_over lent.now.types.now lent.now.ids.now (near_in lent.now) sheet.now skip (length out.old)) }
 {
     let mut at: usize = 0;
     let mut s = first_state();
@@ -312,19 +232,17 @@ fn put_lines(
         match step_of(c) {
             Step::Over => return done(at, s.lines, skip, false),
             Step::Setting => s = after(s, c),
-            Step::Last(b) => {
-                let q = put_last(line, out, at, s.lines, b, skip);
-                if q.full {
-                    return done(q.at, s.lines, skip, true);
-                }
-                return done(q.at, s.lines + 1, skip, false);
+            Step::Last(_) => {
+                let Some(end) = put_line(lent, sheet, line, out, at, s, c, skip) else {
+                    return done(at, s.lines, skip, true);
+                };
+                return done(end, s.lines + 1, skip, false);
             }
             Step::Line => {
-                let q = put_line(types, ids, sheet, bounds, places, line, out, at, s, c, skip);
-                if q.full {
-                    return done(q.at, s.lines, skip, true);
-                }
-                at = q.at;
+                let Some(end) = put_line(lent, sheet, line, out, at, s, c, skip) else {
+                    return done(at, s.lines, skip, true);
+                };
+                at = end;
                 s = after(s, c);
             }
         }
@@ -332,20 +250,12 @@ fn put_lines(
 }
 
 // Prints a sheet's lines over what was kept of a check of both streams: as `print_sheet` does, where it was kept of these.
-pub fn print_over(
-    types: &[u8],
-    ids: &[u8],
-    bounds: &[u32],
-    places: &[u32],
-    sheet: &[u8],
-    out: &mut [u8],
-    skip: usize,
-) -> Printed
-    ensures result_after { shown out.new result ≡ laid_out out.old (fit_over types.now ids.now (near bounds.now places.now) sheet.now skip (length out.old)) }
-    ensures continues_over { ContinuesOver types.now ids.now (near bounds.now places.now) sheet.now skip (length out.old) }
+pub fn print_over(lent: &Lent, sheet: &[u8], out: &mut [u8], skip: usize) -> Printed
+    ensures result_after { shown out.new result ≡ laid_out out.old (fit_over lent.now.types.now lent.now.ids.now (near_in lent.now) sheet.now skip (length out.old)) }
+    ensures continues_over { ContinuesOver lent.now.types.now lent.now.ids.now (near_in lent.now) sheet.now skip (length out.old) }
 {
     let mut line = [0u8; 4124];
-    put_lines(types, ids, sheet, bounds, places, &mut line, out, skip)
+    put_lines(lent, sheet, &mut line, out, skip)
 }
 
 // Prints a sheet's lines, without the first `skip` of them, as far as whole lines fit into the buffer. Each stream is checked once. A caller with more lines
@@ -357,5 +267,11 @@ pub fn print_sheet(types: &[u8], ids: &[u8], sheet: &[u8], out: &mut [u8], skip:
     let mut kept = [0u32; 4115];
     let mut places = [0u32; 4096];
     keep_both(types, ids, &mut kept, &mut places);
-    print_over(types, ids, &kept, &places, sheet, out, skip)
+    let lent = Lent {
+        types,
+        ids,
+        bounds: &kept,
+        places: &places,
+    };
+    print_over(&lent, sheet, out, skip)
 }

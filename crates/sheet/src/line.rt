@@ -10,12 +10,10 @@ ghost use Rattle.checked_calls.specs.Checks.{of_size_answer};
 ghost use Rattle.sheet.specs.Line.{head, refused_line, text_line, size_line};
 ghost use Rattle.sheet.specs.Sheet.{answer_line};
 
-use checked_calls::answer::{Answer, start};
-use checked_calls::calls::SizeAnswer;
+use checked_calls::answer::start;
 use leaf_writers::numbers::{decimal, decimal_in, hex};
 use pen::Pen;
 use streams::refusal::Refusal;
-use wire::bytes::copy;
 use wire::name::Name;
 
 // The fields before a text.
@@ -24,7 +22,7 @@ fn emit_head(out: &mut [u8], p: Pen, number: u64, refusal: u32, detail: u32) -> 
 {
     let a = decimal(out, p, number);
     let b = pen::text(out, a, b" ");
-    let c = decimal(out, b, refusal as u64);
+    let c = decimal(out, b, u64::from(refusal));
     let d = pen::text(out, c, b" 0x");
     hex(out, d, detail)
 }
@@ -52,18 +50,17 @@ pub fn refused_line(line: &mut [u8], number: u64, f: Refusal) -> Name
 }
 
 // The fields before a text or a size: where the running number starts.
-fn head_before(line: &mut [u8], number: u64) -> usize
-    requires { length line.old ≡ 4124 }
+fn head_before(line: &mut [u8; 4124], number: u64) -> usize
     ensures { (result ≤ 20) × (drop result line.new ≡ (Text.decimal number ++ bytes " 0 0x0 ") ++ drop 27 line.old) }
 {
     let at = decimal_in(&mut line[0..20], number);
-    copy(&mut line[20..27], b" 0 0x0 ");
+    line[20..27].copy_from_slice(b" 0 0x0 ");
     at
 }
 
 // The line of so many bytes behind place 27.
-fn text_line(line: &mut [u8], number: u64, n: usize) -> Name
-    requires { (length line.old ≡ 4124) × (n ≤ 4096) }
+fn text_line(line: &mut [u8; 4124], number: u64, n: usize) -> Name
+    requires { n ≤ 4096 }
     ensures { name_at line.new result ≡ text_line number (take n (drop 27 line.old)) }
 {
     let at = head_before(line, number);
@@ -76,26 +73,25 @@ fn text_line(line: &mut [u8], number: u64, n: usize) -> Name
 }
 
 // The line of a text call, which wrote its text behind place 27.
-pub fn answer_line(line: &mut [u8], number: u64, a: Answer) -> Name
-    requires { (length line.old ≡ 4124) × ((of_answer a).value ≤ 4096) }
+pub fn answer_line(line: &mut [u8; 4124], number: u64, a: Result<usize, Refusal>) -> Name
+    requires { (of_answer a).value ≤ 4096 }
     ensures { name_at line.new result ≡ answer_line number (drop 27 line.old) (of_answer a) }
 {
     match a {
-        Answer::Text(n) => text_line(line, number, n),
-        Answer::Refused(f) => refused_line(line, number, f),
+        Ok(n) => text_line(line, number, n),
+        Err(f) => refused_line(line, number, f),
     }
 }
 
 // The line of a size call.
-pub fn size_line(line: &mut [u8], number: u64, a: SizeAnswer) -> Name
-    requires { length line.old ≡ 4124 }
+pub fn size_line(line: &mut [u8; 4124], number: u64, a: Result<u64, Refusal>) -> Name
     ensures { name_at line.new result ≡ size_line number (of_size_answer a) }
 {
     match a {
-        SizeAnswer::Bytes(n) => {
+        Ok(n) => {
             let q = decimal(&mut line[27..4123], start(4096), n);
             text_line(line, number, q.at)
         }
-        SizeAnswer::Refused(f) => refused_line(line, number, f),
+        Err(f) => refused_line(line, number, f),
     }
 }

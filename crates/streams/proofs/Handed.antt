@@ -1,5 +1,7 @@
 -- Laws of a stream that is handed on from a place: a walk over it is the walk over the whole from that place, with every place moved by as much. Assumes
 -- nothing.
+use Rattle.std.specs.Prelude.{Option, Some, None, Result, Ok, Err, IfOk}
+use Rattle.std.proofs.lemmas.Result.{IfOk-at_ok}
 use Prim.Native.Nat.{ℕ, zero, suc, ◌+◌, ◌-◌, ◌≤◌, ◌<◌}
 use native.Mathlib.Nat.{add-zero}
 use native.Mathlib.Omega.{arith}
@@ -11,13 +13,12 @@ use lib.Seq.{get_or-drop}
 use lib.Dec.{leb}
 use borrow.Author.Tests.{leb-true, leb-false, le-leb, lt-leb}
 use Rattle.wire.specs.Field.{pick, number, field}
-use Rattle.streams.specs.Stream.{behind, passed, record_at}
-use Rattle.streams.specs.declared.stream.Place.{Place}
-use Rattle.streams.specs.declared.stream.Place.TheVariants.{At, Beyond}
-use Rattle.streams.specs.declared.stream.Found.{Found}
-use Rattle.streams.specs.declared.stream.Found.TheVariants as found
+use Rattle.streams.specs.Stream.{behind, passed, stands, record_at, record_behind}
 use Rattle.streams.proofs.Walk.{passed-all, record_at-all, map-passed, map-record, passed-bound}
 use Rattle.streams.proofs.Numbers.{rest-whole}
+use Rattle.streams.specs.declared.stream.RecordAt.{RecordAt}
+use Rattle.streams.specs.declared.stream.Absent.{Absent}
+use Rattle.streams.specs.declared.stream.Absent.TheVariants as absent
 
 number-moved : (w : ℕ) (s : List ℕ) (p at : ℕ) → number w (drop p s) at ≡ number w s (p + at)
 unfolding number
@@ -66,65 +67,63 @@ module _ {A : Type 0} (s : List ℕ) (p : ℕ) (z : A) where
           let g : p + (at + 4) ≡ p + at + 4 = omega arith in
           field-moved (at + 2) (λ kind. f kind (at + 4) x) (λ kind. f₁ kind (p + at + 4) (p + x)) (λ kind. h kind (at + 4) x ∙ rw g) ∙ rw e
 
--- The answers of the two walks, moved.
-abbrev pub moved_found : ℕ → Found → Found
-moved_found p (found.Record kind start end) = found.Record kind (p + start) (p + end)
-moved_found p found.Missing = found.Missing
-moved_found p found.CrossModule = found.CrossModule
+-- What is handed on of the stream, and the answers of the two walks, moved.
+abbrev handed : List ℕ → ℕ → List ℕ
+handed s p = take (length s - p) (drop p s)
 
-abbrev pub moved_place : ℕ → Place → Place
-moved_place p (At x) = At (p + x)
-moved_place p Beyond = Beyond
+abbrev moved_found : ℕ → Result RecordAt Absent → Result RecordAt Absent
+moved_found p (Ok r) = stands r.kind (p + r.start) (p + r.end)
+moved_found p (Err e) = Err e
 
--- A record that was come to lies inside.
-found_inside : (s : List ℕ) (n at : ℕ) {r : Found} → r ≡ passed n s at (λ at. record_at s at found.Record found.Missing) found.Missing
-    → (kind start end : ℕ) → r ≡ found.Record kind start end → (start ≤ end) × (end ≤ length s)
-found_inside s n at e kind start end h =
-    passed-all Inside s n at (λ at. record_at s at found.Record found.Missing) found.Missing
-    (λ next. record_at-all Inside s next found.Record found.Missing
-    (λ kd a b i j q. let v : a ≡ start = cc in let w : b ≡ end = cc in (omega arith, omega arith))
-    none) none (sym e ∙ h)
-  where
-    Inside : Found → Type 0
-    Inside r = r ≡ found.Record kind start end → (start ≤ end) × (end ≤ length s)
+abbrev moved_place : ℕ → Option ℕ → Option ℕ
+moved_place p (Some x) = Some (p + x)
+moved_place p None = None
 
-    none : Inside found.Missing
-    none q = let w : ◌≡◌ {A = ℕ} 0 1 = cc in absurd (omega arith)
-
-module _ (s : List ℕ) (p n : ℕ) where
-  -- What is handed on of the stream.
-  abbrev handed : List ℕ
-  handed = take (length s - p) (drop p s)
-
-  pub found-moved : {r : Found} → r ≡ passed n handed 0 (λ at. record_at handed at found.Record found.Missing) found.Missing
-      → moved_found p r ≡ passed n s p (λ at. record_at s at found.Record found.Missing) found.Missing
-  found-moved {r} e =
-      ap (moved_found p) (rw (rest-whole s p) at e)
-      ∙ map-passed (moved_found p) (drop p s) n 0 (λ at. record_at (drop p s) at found.Record found.Missing) found.Missing
-      ∙ passed-moved s p found.Missing n 0 _ (λ at. record_at s at found.Record found.Missing) each
-      ∙ ap (λ (x : ℕ). passed n s x (λ at. record_at s at found.Record found.Missing) found.Missing) (add-zero p)
+module _ (n : ℕ) (s : List ℕ) (p : ℕ) where
+  found : moved_found p (record_behind n (handed s p) 0) ≡ record_behind n s p
+  unfolding record_behind
+  found =
+      rw (rest-whole s p)
+      (map-passed (moved_found p) (drop p s) n 0 (λ at. record_at (drop p s) at stands (Err absent.Missing)) (Err absent.Missing)
+      ∙ passed-moved s p (Err absent.Missing) n 0 _ (λ at. record_at s at stands (Err absent.Missing)) each
+      ∙ ap (λ (x : ℕ). passed n s x (λ at. record_at s at stands (Err absent.Missing)) (Err absent.Missing)) (add-zero p))
     where
-      each : (x : ℕ) → moved_found p (record_at (drop p s) x found.Record found.Missing) ≡ record_at s (p + x) found.Record found.Missing
+      each : (x : ℕ) → moved_found p (record_at (drop p s) x stands (Err absent.Missing)) ≡ record_at s (p + x) stands (Err absent.Missing)
       each x =
-          map-record (moved_found p) (drop p s) x found.Record found.Missing
-          ∙ record-moved s p found.Missing x _ found.Record (λ kind a b. refl)
+          map-record (moved_found p) (drop p s) x stands (Err absent.Missing)
+          ∙ record-moved s p (Err absent.Missing) x _ stands (λ kind a b. refl)
 
-  pub place-moved : {r : Place} → r ≡ passed n handed 0 At Beyond → moved_place p r ≡ passed n s p At Beyond
-  place-moved {r} e =
-      ap (moved_place p) (rw (rest-whole s p) at e)
-      ∙ map-passed (moved_place p) (drop p s) n 0 At Beyond
-      ∙ passed-moved s p Beyond n 0 _ At (λ x. refl)
-      ∙ ap (λ (x : ℕ). passed n s x At Beyond) (add-zero p)
+  place : moved_place p (passed n (handed s p) 0 Some None) ≡ passed n s p Some None
+  place =
+      rw (rest-whole s p)
+      (map-passed (moved_place p) (drop p s) n 0 Some None
+      ∙ passed-moved s p None n 0 _ Some (λ x. refl)
+      ∙ ap (λ (x : ℕ). passed n s x Some None) (add-zero p))
+
+  pub found_ok : (r : RecordAt) → record_behind n (handed s p) 0 ≡ Ok r → record_behind n s p ≡ Ok (record { kind = r.kind; start = p + r.start; end = p + r.end })
+  found_ok r e = rw (← found, e)
+
+  pub found_err : (f : Absent) → record_behind n (handed s p) 0 ≡ Err f → record_behind n s p ≡ Err f
+  found_err f e = rw (← found, e)
+
+  pub place_some : (x : ℕ) → passed n (handed s p) 0 Some None ≡ Some x → passed n s p Some None ≡ Some (p + x)
+  place_some x e = rw (← place, e)
+
+  pub place_none : passed n (handed s p) 0 Some None ≡ None → passed n s p Some None ≡ None
+  place_none e = rw (← place, e)
 
   -- What was come to lies inside the whole.
-  handed-length : p ≤ length s → p + length handed ≡ length s
+  handed-length : p ≤ length s → p + length (handed s p) ≡ length s
   handed-length h = rw (rest-whole s p) (omega (arith, length-drop p s))
 
-  pub found-fits : p ≤ length s → {r : Found} → r ≡ passed n handed 0 (λ at. record_at handed at found.Record found.Missing) found.Missing
-      → (kind start end : ℕ) → r ≡ found.Record kind start end → (p + start ≤ length s) × (p + end ≤ length s)
-  found-fits h e kind start end g =
-      let i = found_inside handed n 0 e kind start end g in
+  pub found_fits : p ≤ length s → (r : RecordAt) → record_behind n (handed s p) 0 ≡ Ok r → (p + r.start ≤ length s) × (p + r.end ≤ length s)
+  unfolding record_behind
+  found_fits h r e =
+      let i : (r.start ≤ r.end) × (r.end ≤ length (handed s p)) =
+      IfOk-at_ok (λ (r : RecordAt). (r.start ≤ r.end) × (r.end ≤ length (handed s p))) e
+      (passed-all (λ (r : Result RecordAt Absent). IfOk r (λ r. (r.start ≤ r.end) × (r.end ≤ length (handed s p)))) (handed s p) n 0 (λ at. record_at (handed s p) at stands (Err absent.Missing)) (Err absent.Missing)
+      (λ next. record_at-all (λ (r : Result RecordAt Absent). IfOk r (λ r. (r.start ≤ r.end) × (r.end ≤ length (handed s p)))) (handed s p) next stands (Err absent.Missing) (λ kd a b i j. (i, j)) tt) tt) in
       (omega (arith, handed-length h, i.0, i.1), omega (arith, handed-length h, i.1))
 
-  pub place-fits : p ≤ length s → {r : Place} → r ≡ passed n handed 0 At Beyond → (x : ℕ) → r ≡ At x → p + x ≤ length s
-  place-fits h e x g = omega (arith, handed-length h, passed-bound n handed 0 (length handed) x (omega arith) (omega arith) (sym e ∙ g))
+  pub place_fits : p ≤ length s → (x : ℕ) → passed n (handed s p) 0 Some None ≡ Some x → p + x ≤ length s
+  place_fits h x e = omega (arith, handed-length h, passed-bound n (handed s p) 0 (length (handed s p)) x (omega arith) (omega arith) e)

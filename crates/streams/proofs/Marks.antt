@@ -1,4 +1,5 @@
 -- Laws of places: a mark is never behind its record, right marks give the plain look-up, and up to where a mark serves. Assumes nothing.
+use Rattle.std.specs.Prelude.{Some, None}
 use Prim.Native.Nat.{ℕ, zero, suc, ◌+◌, ◌-◌, ◌*◌, ◌/◌, ◌≤◌, ◌<◌, min}
 use native.Mathlib.Nat.{div-lt_iff_lt-mul, div-zero, le-div_iff_mul-le, zero-add, mul-zero, suc-mul, div-mul-le_self, mul-le-mul_right, min-le_left}
 use native.Mathlib.Numerals.{add-one}
@@ -15,7 +16,6 @@ use Rattle.streams.specs.Stream.{behind, passed, record_at, first_record, walk_f
 use Rattle.streams.specs.Places.{first_mark, entry_in, mark_in, mark_by, nearest, serves_in, serves, serves_until, RightMarks, RightFor, RightPlaces, strided, Parted}
 use Rattle.streams.specs.declared.stream.Stream.{Stream}
 use Rattle.streams.specs.declared.stream.Cursor.{Cursor}
-use Rattle.streams.specs.declared.stream.Place.TheVariants.{At, Beyond}
 use Rattle.streams.specs.declared.places.Spacing.{Spacing}
 use Rattle.streams.specs.declared.places.Mark.{Mark}
 use Rattle.streams.proofs.Walk.{passed-from}
@@ -24,40 +24,12 @@ use Rattle.streams.proofs.Walk.{passed-from}
 pub entry-before : (d stride m : ℕ) → min (d / stride) m * stride ≤ d
 entry-before d stride m = omega (arith, mul-le-mul_right stride (min-le_left (d / stride) m), div-mul-le_self d stride)
 
-pub step-before : (k d stride a m : ℕ) → a ≡ d / stride → k ≡ min a m → k * stride ≤ d
-step-before k d stride a m e f = rw (f, e) (entry-before d stride m)
+pub entry_low : (l : Spacing) (base n k : ℕ) → k ≡ entry_in l base n → k * l.stride ≤ n - base
+entry_low l base n k e = rw e (entry-before (n - base) l.stride (l.room - 1))
 
 -- The next entry's is at most a stride behind it.
-pub step-next : (k d stride a m : ℕ) → a ≡ d / stride → k ≡ min a m → (k + 1) * stride ≤ d + stride
-step-next k d stride a m e f = rw (add-one k, suc-mul k stride) (omega (arith, step-before k d stride a m e f))
-
--- What `mark_in` answers: the entry where there is one, and else the first record.
-module _ (l : Spacing) (ps : List ℕ) (from base n k a b : ℕ) (e : a ≡ (n - base) / l.stride) (f : b ≡ l.room - 1) (g : k ≡ min a b) where
-  pub mark-at : from + k < length ps → (x : ℕ) → x ≡ get_or ps (from + k) 0 → ◌≡◌ {A = Mark} (record { number = base + k * l.stride; place = x }) (mark_in l ps from base n)
-  unfolding mark_in
-  mark-at h x i =
-      let j : k ≡ entry_in l base n = cc in
-      rw (i, j, lt-ltb (from + entry_in l base n) (length ps) (rw j at h))
-
-  pub mark-out : length ps ≤ from + k → first_mark ≡ mark_in l ps from base n
-  unfolding mark_in
-  mark-out h =
-      let j : k ≡ entry_in l base n = cc in
-      rw (le-ltb (from + entry_in l base n) (length ps) (rw j at h))
-
--- What `serves_in` answers: up to the next entry's record or the next part, or up to that alone where there is no next entry.
-module _ (l : Spacing) (base n k a b : ℕ) (e : a ≡ (n - base) / l.stride) (f : b ≡ l.room - 1) (g : k ≡ min a b) where
-  pub serves-at : (next : ℕ) → k + 1 < l.room → min (base + (k + 1) * l.stride) next ≡ serves_in l base next n
-  unfolding serves_in
-  serves-at next h =
-      let j : k ≡ entry_in l base n = cc in
-      rw (j, lt-ltb (entry_in l base n + 1) l.room (rw j at h))
-
-  pub serves-out : (next : ℕ) → l.room ≤ k + 1 → next ≡ serves_in l base next n
-  unfolding serves_in
-  serves-out next h =
-      let j : k ≡ entry_in l base n = cc in
-      rw (le-ltb (entry_in l base n + 1) l.room (rw j at h))
+pub entry_next : (l : Spacing) (base n k : ℕ) → k ≡ entry_in l base n + 1 → k * l.stride ≤ n - base + l.stride
+entry_next l base n k e = rw (e, add-one (entry_in l base n), suc-mul (entry_in l base n) l.stride) (omega (arith, entry_low l base n (entry_in l base n) refl))
 
 pub mark-in-before : (l : Spacing) (ps : List ℕ) (from base n : ℕ) → base ≤ n → (mark_in l ps from base n).number ≤ n
 unfolding mark_in
@@ -79,6 +51,8 @@ mark-before l ps n = go (ltb n l.second) (ltb n l.third) (ltb n l.fourth) refl r
 
 pub mark-low : (l : Spacing) (ps : List ℕ) (n : ℕ) {m : Mark} → m ≡ mark_by l ps n → m.number ≤ n
 mark-low l ps n e = rw e (mark-before l ps n)
+
+pub ruleset marked = (mark-before)
 
 -- A start is never behind its index, and is never before the first record.
 pub nearest-onward : (l : Spacing) (ps : List ℕ) (t : Stream) (i : ℕ) → t.first ≤ i → (nearest l ps t i).index ≤ i
@@ -171,7 +145,7 @@ strided-right stride room ps count s b r n h =
     k : ℕ
     k = min ((n - 0) / stride) (room - 1)
 
-    go : (b : Bool) → ltb (0 + k) (length ps) ≡ b → passed (pick b (record { number = 0 + k * stride; place = get_or ps (0 + k) 0 }) first_mark).number s 56 At Beyond ≡ At (pick b (record { number = 0 + k * stride; place = get_or ps (0 + k) 0 }) first_mark).place
+    go : (b : Bool) → ltb (0 + k) (length ps) ≡ b → passed (pick b (record { number = 0 + k * stride; place = get_or ps (0 + k) 0 }) first_mark).number s 56 Some None ≡ Some (pick b (record { number = 0 + k * stride; place = get_or ps (0 + k) 0 }) first_mark).place
     go true e = rw (zero-add (k * stride)) (r k (omega (arith, ltb-true (0 + k) (length ps) e)) (omega (arith, entry-before (n - 0) stride (room - 1))))
     go false e = refl
 
@@ -242,21 +216,3 @@ mark-same l ps n m h j = go (ltb n l.second) (ltb n l.third) (ltb n l.fourth) re
 pub nearest-same : (l : Spacing) (ps : List ℕ) (t : Stream) (i j : ℕ) → t.first ≤ i → i ≤ j → j < serves_until l t i → nearest l ps t j ≡ nearest l ps t i
 unfolding nearest serves_until
 nearest-same l ps t i j f h k = rw (mark-same l ps (i - t.first) (j - t.first) (omega arith) (omega arith))
-
--- The part that a record stands in: the first, second, third or fourth.
-module _ (room second third fourth n : ℕ) where
-  pub parted-first : n < second → Parted room second third fourth n (record { from = 0; base = 0 })
-  unfolding mark_by mark_in
-  parted-first h = record { low = omega arith; near = omega arith; mark = λ ps stride. rw (lt-ltb n second h) }
-
-  pub parted-second : (from : ℕ) → from ≡ room → second ≤ n → n < third → Parted room second third fourth n (record { from = from; base = second })
-  unfolding mark_by mark_in
-  parted-second from e h i = record { low = h; near = omega arith; mark = λ ps stride. rw (e, le-ltb n second h, lt-ltb n third i) }
-
-  pub parted-third : (from : ℕ) → from ≡ room → second ≤ n → third ≤ n → n < fourth → Parted room second third fourth n (record { from = 2 * from; base = third })
-  unfolding mark_by mark_in
-  parted-third from e h i j = record { low = i; near = omega arith; mark = λ ps stride. rw (e, le-ltb n second h, le-ltb n third i, lt-ltb n fourth j) }
-
-  pub parted-fourth : (from : ℕ) → from ≡ room → second ≤ n → third ≤ n → fourth ≤ n → Parted room second third fourth n (record { from = 3 * from; base = fourth })
-  unfolding mark_by mark_in
-  parted-fourth from e h i j = record { low = j; near = omega arith; mark = λ ps stride. rw (e, le-ltb n second h, le-ltb n third i, le-ltb n fourth j) }

@@ -1,5 +1,7 @@
 -- Laws of the walk to a record that reads no more than four bytes inside the stream ahead: a place past the end is as good as missed. Assumes nothing.
+use Rattle.std.specs.Prelude.{Some, None, Result, Ok, Err}
 use Prim.Native.Nat.{ℕ, zero, suc, ◌+◌, ◌-◌, ◌≤◌, ◌<◌}
+use native.Mathlib.Numerals.{add-one}
 use native.Mathlib.Omega.{arith}
 use mathlib.Core.Path.{◌≡◌, refl, sym, ◌∙◌}
 use mathlib.Core.Bool.{Bool, true, false}
@@ -8,114 +10,82 @@ use lib.ListN.{length, take}
 use lib.Dec.{leb, ltb}
 use borrow.Author.Tests.{leb-true, leb-false, le-leb, lt-leb, lt-ltb, le-ltb}
 use Rattle.wire.specs.Field.{pick, number, field}
-use Rattle.streams.specs.Stream.{behind, passed, record_at, walk_from, look_from}
+use Rattle.streams.specs.Stream.{behind, passed, stands, record_at, record_behind, number_from, walk_from, look_from}
 use Rattle.streams.specs.Places.{mark_by, nearest}
 use Rattle.streams.specs.declared.stream.Stream.{Stream}
 use Rattle.streams.specs.declared.stream.Cursor.{Cursor}
+use Rattle.streams.specs.declared.stream.RecordAt.{RecordAt}
+use Rattle.streams.specs.declared.stream.Absent.{Absent}
+use Rattle.streams.specs.declared.stream.Absent.TheVariants as absent
 use Rattle.streams.specs.declared.places.Spacing.{Spacing}
 use Rattle.streams.specs.declared.places.Mark.{Mark}
-use Rattle.streams.proofs.Walk.{passed-more}
+use Rattle.streams.proofs.Walk.{behind-at, behind-beyond, behind-within, passed_none, passed-more}
 use Rattle.streams.proofs.Marks.{mark-before}
 
-module _ {A : Type 0} (s : List ℕ) (at : ℕ) where
-  -- Where fewer than four bytes stand there is no record, nor where the length is less than two.
-  pub behind-out : (k : ℕ → A) (z : A) → length s < at + 4 → behind s at k z ≡ z
-  unfolding behind field
-  behind-out k z h = go (leb (at + 2) (length s)) (leb 2 (number 2 s at)) (leb (at + 2 + number 2 s at) (length s)) refl refl
-    where
-      go : (a b c : Bool) → leb 2 (number 2 s at) ≡ b → leb (at + 2 + number 2 s at) (length s) ≡ c → pick a (pick b (pick c (k (at + 2 + number 2 s at)) z) z) z ≡ z
-      go true true true e i =
-          let x : 2 ≤ number 2 s at = leb-true 2 (number 2 s at) e in
-          let y : at + 2 + number 2 s at ≤ length s = leb-true (at + 2 + number 2 s at) (length s) i in
-          absurd (omega arith)
-      go true true false e i = refl
-      go true false c e i = refl
-      go false b c e i = refl
+-- A record ends where its length says.
+pub behind_ends : (s : List ℕ) (at len : ℕ) → len ≡ number 2 s at → 2 ≤ len → at + (2 + len) ≤ length s → behind s at Some None ≡ Some (at + (2 + len))
+unfolding behind field
+behind_ends s at len e h i = let j : at + 2 + len ≡ at + (2 + len) = omega arith in grind (arith, j)
 
-  pub behind-few : (k : ℕ → A) (z : A) → number 2 s at < 2 → behind s at k z ≡ z
-  unfolding behind field
-  behind-few k z h = rw (lt-leb 2 (number 2 s at) h) (go (leb (at + 2) (length s)))
-    where
-      go : (a : Bool) → pick a z z ≡ z
-      go true = refl
-      go false = refl
-
-  -- Any other record ends where its length says, if that is inside.
-  pub behind-in : (k : ℕ → A) (z : A) → at + 4 ≤ length s → 2 ≤ number 2 s at → behind s at k z ≡ pick (leb (at + 2 + number 2 s at) (length s)) (k (at + 2 + number 2 s at)) z
-  unfolding behind field
-  behind-in k z h i = rw (le-leb (at + 2) (length s) (omega arith), le-leb 2 (number 2 s at) i)
-
-  pub behind-long : (k : ℕ → A) (z : A) (len : ℕ) → at + 4 ≤ length s → len ≡ number 2 s at → 2 ≤ len → length s < at + 2 + len → behind s at k z ≡ z
-  behind-long k z len h e i j = behind-in k z h (rw e at i) ∙ rw (lt-leb (at + 2 + number 2 s at) (length s) (rw e at j))
-
-  pub behind-ends : (k : ℕ → A) (z : A) (len : ℕ) → len ≡ number 2 s at → 2 ≤ len → at + 2 + len ≤ length s → behind s at k z ≡ k (at + 2 + len)
-  behind-ends k z len e h i =
-      behind-in k z (omega arith) (rw e at h)
-      ∙ rw (le-leb (at + 2 + number 2 s at) (length s) (rw e at i), sym e)
-
--- The same of the record at a place, and of the walk to it.
-module _ {A : Type 0} (s : List ℕ) (f : ℕ → ℕ → ℕ → A) (m : A) where
-  abbrev pub found : ℕ → A
-  found at = record_at s at f m
-
-  pub record-out : (at : ℕ) → length s < at + 4 → record_at s at f m ≡ m
-  unfolding record_at
-  record-out at h = behind-out s at _ m h
-
-  pub record-few : (at : ℕ) → number 2 s at < 2 → record_at s at f m ≡ m
-  unfolding record_at
-  record-few at h = behind-few s at _ m h
-
-  pub record-long : (at len : ℕ) → at + 4 ≤ length s → len ≡ number 2 s at → 2 ≤ len → length s < at + 2 + len → record_at s at f m ≡ m
-  unfolding record_at
-  record-long at len h e i j = behind-long s at _ m len h e i j
-
-  pub record-in : (at len kind : ℕ) → at + 4 ≤ length s → len ≡ number 2 s at → 2 ≤ len → at + 2 + len ≤ length s → kind ≡ number 2 s (at + 2) → record_at s at f m ≡ f kind (at + 4) (at + 2 + len)
+-- The record at a place, by the place behind it.
+module _ {A : Type 0} (s : List ℕ) (at : ℕ) (f : ℕ → ℕ → ℕ → A) (m : A) where
+  pub record_found : (next kind : ℕ) → behind s at Some None ≡ Some next → kind ≡ number 2 s (at + 2) → record_at s at f m ≡ f kind (at + 4) next
   unfolding record_at field
-  record-in at len kind h e i j g =
-      behind-in s at _ m h (rw e at i)
-      ∙ rw (le-leb (at + 2 + number 2 s at) (length s) (rw e at j), le-leb (at + 2 + 2) (length s) (omega arith), g, e)
+  record_found next kind e h =
+      let w = behind-within s at refl next e in
+      rw (behind-at s at refl next e, le-leb (at + 2 + 2) (length s) (omega arith), h)
 
-  pub passed-out : (n at : ℕ) → length s < at + 4 → passed n s at found m ≡ m
-  unfolding passed
-  passed-out zero at h = record-out at h
-  passed-out (suc n) at h = behind-out s at _ m h
+  pub record_missed : behind s at Some None ≡ None → record_at s at f m ≡ m
+  unfolding record_at
+  record_missed e = behind-beyond s at refl e _ m
 
-  pub passed-few : (n at : ℕ) → 0 < n → number 2 s at < 2 → passed n s at found m ≡ m
-  passed-few n at h i = passed-more n s at found m h ∙ behind-few s at _ m i
+-- Where fewer than four bytes stand there is no record.
+out : {A : Type 0} (s : List ℕ) (at : ℕ) (k : ℕ → A) (z : A) → length s < at + 4 → behind s at k z ≡ z
+unfolding behind field
+out s at k z h = grind arith
 
-  pub passed-step : (n at len : ℕ) → 0 < n → at + 4 ≤ length s → len ≡ number 2 s at → 2 ≤ len → passed n s at found m ≡ passed (n - 1) s (at + 2 + len) found m
-  passed-step n at len h i e j =
-      passed-more n s at found m h
-      ∙ behind-in s at (λ at. passed (n - 1) s at found m) m i (rw e at j)
-      ∙ rw (sym e) (go (leb (at + 2 + len) (length s)) refl)
-    where
-      go : (b : Bool) → leb (at + 2 + len) (length s) ≡ b → pick b (passed (n - 1) s (at + 2 + len) found m) m ≡ passed (n - 1) s (at + 2 + len) found m
-      go true q = refl
-      go false q = sym (passed-out (n - 1) (at + 2 + len) (omega (arith, leb-false (at + 2 + len) (length s) q)))
+record_out : {A : Type 0} (s : List ℕ) (at : ℕ) → length s < at + 4 → (f : ℕ → ℕ → ℕ → A) (m : A) → record_at s at f m ≡ m
+unfolding record_at
+record_out s at h f m = out s at _ m h
 
--- What an index stands for: of another module, past the end, before the first, and else what its mark leads to.
-module _ {A : Type 0} (s : List ℕ) (t : Stream) (i : ℕ) (k : ℕ → ℕ → ℕ → A) (m x : A) where
-  pub look-cross : (from : Cursor) → 0x8000_0000 ≤ i → look_from s t from i k m x ≡ x
-  unfolding look_from walk_from
-  look-cross from h = rw (le-leb 0x8000_0000 i h)
+passed_out : {A : Type 0} (n : ℕ) (s : List ℕ) (at : ℕ) → length s < at + 4 → (k : ℕ → A) (z : A) → k at ≡ z → passed n s at k z ≡ z
+unfolding passed
+passed_out zero s at h k z e = e
+passed_out (suc n) s at h k z e = out s at _ z h
 
-  pub look-past : (from : Cursor) → i < 0x8000_0000 → t.end ≤ i → look_from s t from i k m x ≡ m
-  unfolding look_from walk_from
-  look-past from g h = rw (lt-leb 0x8000_0000 i g, le-leb t.end i h) (go (ltb i from.index))
-    where
-      go : (a : Bool) → pick a m m ≡ m
-      go true = refl
-      go false = refl
+-- The record behind so many others: where fewer than four bytes stand there is none, nor where a length is less than two, and else it stands one fewer
+-- behind the next place, even if that is past the end.
+module _ (n : ℕ) (s : List ℕ) (at : ℕ) where
+  pub behind_out : length s < at + 4 → record_behind n s at ≡ Err absent.Missing
+  unfolding record_behind
+  behind_out h = passed_out n s at h (λ at. record_at s at stands (Err absent.Missing)) (Err absent.Missing) (record_out s at h stands (Err absent.Missing))
 
-  module _ (l : Spacing) (ps : List ℕ) where
-    pub look-before : i < 0x8000_0000 → i < t.first → look_from s t (nearest l ps t i) i k m x ≡ m
-    unfolding look_from walk_from nearest
-    look-before g h = rw (lt-leb 0x8000_0000 i g, lt-ltb i (t.first + (mark_by l ps (i - t.first)).number) (omega arith))
+  pub behind_few : 0 < n → number 2 s at < 2 → record_behind n s at ≡ Err absent.Missing
+  unfolding record_behind behind field
+  behind_few h i = rw (passed-more n s at (λ at. record_at s at stands (Err absent.Missing)) (Err absent.Missing) h) (grind arith)
 
-    pub look-near : i < 0x8000_0000 → t.first ≤ i → i < t.end → (r : Mark) → r ≡ mark_by l ps (i - t.first) → look_from s t (nearest l ps t i) i k m x ≡ passed (i - t.first - r.number) (take t.stop s) r.place (λ at. record_at (take t.stop s) at k m) m
-    unfolding look_from walk_from nearest
-    look-near g h j r e =
-        let b : (mark_by l ps (i - t.first)).number ≤ i - t.first = mark-before l ps (i - t.first) in
-        let z : i - t.first - (mark_by l ps (i - t.first)).number ≡ i - (t.first + (mark_by l ps (i - t.first)).number) = omega arith in
-        rw (e, z, lt-leb 0x8000_0000 i g, le-ltb i (t.first + (mark_by l ps (i - t.first)).number) (omega arith), lt-leb t.end i j)
+  pub behind_none : n ≤ 0 → record_behind n s at ≡ record_at s at stands (Err absent.Missing)
+  unfolding record_behind
+  behind_none h = sym (passed_none n s at _ (Err absent.Missing) h)
+
+step : (m : ℕ) (s : List ℕ) (at : ℕ) → at + 4 ≤ length s → 2 ≤ number 2 s at → record_behind (suc m) s at ≡ record_behind m s (at + 2 + number 2 s at)
+unfolding record_behind passed behind field
+step m s at h i = let out = behind_out m s (at + 2 + number 2 s at) in grind (arith, out)
+
+pub behind_next : (n m : ℕ) (s : List ℕ) (at next : ℕ) → m + 1 ≡ n → at + 4 ≤ length s → 2 ≤ number 2 s at → next ≡ at + (2 + number 2 s at) → record_behind n s at ≡ record_behind m s next
+behind_next n m s at next e h i j =
+    let k : next ≡ at + 2 + number 2 s at = omega arith in
+    rw (← e, add-one, k) (step m s at h i)
+
+-- What an index stands for: nothing where it has no number, and else what its mark leads to.
+module _ (s : List ℕ) (t : Stream) (l : Spacing) (ps : List ℕ) (i : ℕ) where
+  abbrev looked : Result RecordAt Absent
+  looked = look_from s t (nearest l ps t i) i stands (Err absent.Missing) (Err absent.CrossModule)
+
+  pub look_err : (e : Absent) → number_from t.first t.end i ≡ Err e → looked ≡ Err e
+  unfolding look_from walk_from nearest number_from
+  look_err e h = grind arith
+
+  pub look_ok : (n : ℕ) → number_from t.first t.end i ≡ Ok n → looked ≡ record_behind (n - (mark_by l ps n).number) (take t.stop s) (mark_by l ps n).place
+  unfolding look_from walk_from nearest number_from record_behind
+  look_ok n h = let b = mark-before l ps n in grind (arith, b)

@@ -1,7 +1,7 @@
 -- What the checks of a call's two streams found, as numbers in a list: so it is lent to the writers beside the places, and kept by a caller for later calls. Of
 -- each stream there are nine, the types' before the ids'; then follow how many places of the ids there are, and these. The types' places are a list by
 -- themselves, so that a caller may lend them. Any list of numbers says something.
-use Rattle.std.specs.Prelude.{ℕ, ◌+◌, min, List, [], ◌∷◌, drop, get_or, eqb}
+use Rattle.std.specs.Prelude.{ℕ, ◌+◌, min, List, [], ◌∷◌, drop, get_or, eqb, Result, Ok, Err}
 use Rattle.wire.specs.Field.{pick}
 use Rattle.streams.specs.Refusal.{number_of}
 use Rattle.streams.specs.Stream.{none}
@@ -9,10 +9,9 @@ use Rattle.streams.specs.declared.refusal.StreamKind.{StreamKind}
 use Rattle.streams.specs.declared.refusal.StreamKind.TheVariants as stream
 use Rattle.streams.specs.declared.refusal.Refusal.TheVariants.{Header, Tiling}
 use Rattle.streams.specs.declared.stream.Stream.{Stream}
-use Rattle.streams.specs.declared.stream.StreamCheck.{StreamCheck}
-use Rattle.streams.specs.declared.stream.StreamCheck.TheVariants.{Good, Refused}
 use Rattle.streams.specs.declared.places.Spacing.{Spacing}
 use Rattle.streams.specs.declared.places.NotedCheck.{NotedCheck}
+use Rattle.streams.specs.declared.refusal.Refusal.{Refusal}
 
 -- Where the numbers of a stream start.
 unfoldable pub start_of : StreamKind → ℕ
@@ -39,10 +38,10 @@ spacing_in ns which =
     }
 
 -- The check of a stream: 1 says that it is good, 4 that its records do not tile, anything else that it has no header.
-unfoldable pub check_in : List ℕ → StreamKind → StreamCheck
+unfoldable pub check_in : List ℕ → StreamKind → Result Stream Refusal
 check_in ns which =
-    pick (eqb (get_or ns (start_of which) 0) 1) (Good (stream_in ns which))
-    (pick (eqb (get_or ns (start_of which) 0) 4) (Refused (Tiling which)) (Refused (Header which)))
+    pick (eqb (get_or ns (start_of which) 0) 1) (Ok (stream_in ns which))
+    (pick (eqb (get_or ns (start_of which) 0) 4) (Err (Tiling which)) (Err (Header which)))
 
 -- The places of a stream.
 unfoldable pub places_in : List ℕ → List ℕ → StreamKind → List ℕ
@@ -50,18 +49,21 @@ places_in ns ps stream.Types = ps
 places_in ns ps stream.Ids = drop 19 ns
 
 -- What is noted of a check: its answer, then the bounds and the spacing.
-unfoldable pub state_of : StreamCheck → ℕ
-state_of (Good t) = 1
-state_of (Refused f) = number_of f
+unfoldable pub state_of : Result Stream Refusal → ℕ
+state_of (Ok t) = 1
+state_of (Err f) = number_of f
 
 -- What is noted of a stream that was refused is none.
-unfoldable pub stream_of : StreamCheck → Stream
-stream_of (Good t) = t
-stream_of (Refused f) = none
+unfoldable pub stream_of : Result Stream Refusal → Stream
+stream_of (Ok t) = t
+stream_of (Err f) = none
 
 abbrev numbers_before : ℕ → Stream → Spacing → List ℕ → List ℕ
 numbers_before state t l rest =
     state ∷ t.first ∷ t.end ∷ min t.stop 0xffff_ffff ∷ l.stride ∷ l.room ∷ l.second ∷ l.third ∷ l.fourth ∷ rest
+
+unfoldable pub numbers_of : NotedCheck → List ℕ
+numbers_of c = numbers_before (state_of c.check) (stream_of c.check) c.spacing []
 
 unfoldable pub bounds_of : NotedCheck → NotedCheck → ℕ → List ℕ
 bounds_of a b count =

@@ -1,14 +1,11 @@
 -- Places: where some records of a stream stand, noted so that a look-up starts at the nearest one at or before its record. All of this is total: whatever
 -- numbers a list of places has, a walk starts somewhere. What places have to be for it to come to the right record is said by `RightMarks`.
-use Rattle.std.specs.Prelude.{ℕ, ◌+◌, ◌-◌, ◌*◌, ◌/◌, ◌≤◌, ◌<◌, min, ◌≡◌, List, length, take, get_or, ltb}
+use Rattle.std.specs.Prelude.{ℕ, ◌+◌, ◌-◌, ◌*◌, ◌/◌, ◌≤◌, ◌<◌, min, ◌≡◌, List, length, take, get_or, ltb, Option, Some, None, Ok}
 use Rattle.wire.specs.Field.{pick}
 use Rattle.streams.specs.Stream.{passed, checked}
 use Rattle.streams.specs.declared.refusal.StreamKind.{StreamKind}
 use Rattle.streams.specs.declared.stream.Stream.{Stream}
 use Rattle.streams.specs.declared.stream.Cursor.{Cursor}
-use Rattle.streams.specs.declared.stream.StreamCheck.TheVariants.{Good}
-use Rattle.streams.specs.declared.stream.Place.{Place}
-use Rattle.streams.specs.declared.stream.Place.TheVariants.{At, Beyond}
 use Rattle.streams.specs.declared.places.Spacing.{Spacing}
 use Rattle.streams.specs.declared.places.Mark.{Mark}
 use Rattle.streams.specs.declared.places.Part.{Part}
@@ -62,7 +59,7 @@ serves_until l t index = t.first + serves l (index - t.first)
 
 -- Right marks: each record's mark is a record's number and its place.
 abbrev pub RightMarks : Spacing → List ℕ → ℕ → List ℕ → Type 0
-RightMarks l ps count s = (n : ℕ) → n < count → passed (mark_by l ps n).number s 56 At Beyond ≡ At (mark_by l ps n).place
+RightMarks l ps count s = (n : ℕ) → n < count → passed (mark_by l ps n).number s 56 Some None ≡ Some (mark_by l ps n).place
 
 -- The same of a checked stream.
 abbrev pub RightFor : Spacing → List ℕ → List ℕ → Stream → Type 0
@@ -71,7 +68,7 @@ RightFor l ps s t = RightMarks l ps (t.end - t.first) (take t.stop s)
 -- Right places of a run of records: entry k from `base` on is the place of its record k * stride, for all of `room` entries that the run needs.
 abbrev pub RightRun : List ℕ → ℕ → ℕ → ℕ → ℕ → ℕ → List ℕ → Type 0
 RightRun s from count stride room base ps =
-    (k : ℕ) → k < room → k * stride < count → passed (k * stride) s from At Beyond ≡ At (get_or ps (base + k) 0)
+    (k : ℕ) → k < room → k * stride < count → passed (k * stride) s from Some None ≡ Some (get_or ps (base + k) 0)
 
 -- Right places of a stream, as they are lent: entry k is the place of record k * stride.
 abbrev pub RightPlaces : ℕ → List ℕ → ℕ → List ℕ → Type 0
@@ -81,29 +78,27 @@ RightPlaces stride ps count s = RightRun s 56 count stride (length ps) 0 ps
 abbrev pub strided : ℕ → ℕ → Spacing
 strided stride room = record { stride = stride; room = room; second = 0xffff_ffff; third = 0xffff_ffff; fourth = 0xffff_ffff }
 
--- A spacing by its numbers.
-abbrev pub spaced : ℕ → ℕ → ℕ → ℕ → ℕ → Spacing
-spaced stride room second third fourth = record { stride = stride; room = room; second = second; third = third; fourth = fourth }
-
--- The part that a record stands in: its mark is that of the part.
-pub record Parted (room second third fourth n : ℕ) (r : Part) : Type 0 where
+-- The part that a record stands in: its mark is that of the part, and it is served as the part's records are.
+pub record Parted (l : Spacing) (n : ℕ) (r : Part) : Type 0 where
   pub low : r.base ≤ n
-  pub near : r.from ≤ 3 * room
-  pub mark : (ps : List ℕ) (stride : ℕ) → mark_by (spaced stride room second third fourth) ps n ≡ mark_in (strided stride room) ps r.from r.base n
+  pub near : r.from ≤ 3 * l.room
+  pub fits : r.next ≤ 0x1_0000_0000
+  pub mark : (ps : List ℕ) → mark_by l ps n ≡ mark_in l ps r.from r.base n
+  pub until : serves l n ≡ serves_in l r.base r.next n
 
 -- Places in four parts of `room` entries each, with so many records.
 abbrev pub quartered : ℕ → ℕ → ℕ → ℕ → ℕ → Spacing
 quartered stride room a b c = record { stride = stride; room = room; second = a; third = a + b; fourth = a + b + c }
 
 -- What a walk over records leaves in the places that it was lent: those that it needed are noted, the others stay.
-pub record Noted (s : List ℕ) (from count stride : ℕ) (old new : List ℕ) (r : Place) : Type 0 where
-  pub is : r ≡ passed count s from At Beyond
+pub record Noted (s : List ℕ) (from count stride : ℕ) (old new : List ℕ) (r : (Option ℕ)) : Type 0 where
+  pub is : r ≡ passed count s from Some None
   pub sized : length new ≡ length old
-  pub right : (x : ℕ) → r ≡ At x → RightRun s from count stride (length old) 0 new
+  pub right : (x : ℕ) → r ≡ Some x → RightRun s from count stride (length old) 0 new
   pub rest : (k : ℕ) → count ≤ k * stride → get_or new k 0 ≡ get_or old k 0
 
 -- What a check that notes places says: the check's answer, and a spacing by which they are right.
 pub record NotedFor (which : StreamKind) (s old new : List ℕ) (r : NotedCheck) : Type 0 where
   pub is : r.check ≡ checked which s
   pub sized : length new ≡ length old
-  pub right : (t : Stream) → r.check ≡ Good t → RightFor r.spacing new s t
+  pub right : (t : Stream) → r.check ≡ Ok t → RightFor r.spacing new s t

@@ -1,13 +1,15 @@
 -- Streams (document 01, "Streams and records"): the header, the records that tile the bytes behind it, and the record of an index.
-use Rattle.std.specs.Prelude.{ℕ, zero, suc, ◌+◌, ◌-◌, Bool, false, List, length, take, drop, leb, ltb, eqb}
+use Rattle.std.specs.Prelude.{ℕ, zero, suc, ◌+◌, ◌-◌, Bool, false, List, length, take, drop, leb, ltb, eqb, Option, Some, Result, Ok, Err}
 use Rattle.wire.specs.Field.{pick, field}
 use Rattle.streams.specs.declared.refusal.StreamKind.{StreamKind}
 use Rattle.streams.specs.declared.refusal.StreamKind.TheVariants as stream
 use Rattle.streams.specs.declared.refusal.Refusal.TheVariants.{Header, Tiling}
 use Rattle.streams.specs.declared.stream.Stream.{Stream}
 use Rattle.streams.specs.declared.stream.Cursor.{Cursor}
-use Rattle.streams.specs.declared.stream.StreamCheck.{StreamCheck}
-use Rattle.streams.specs.declared.stream.StreamCheck.TheVariants.{Good, Refused}
+use Rattle.streams.specs.declared.stream.RecordAt.{RecordAt}
+use Rattle.streams.specs.declared.stream.Absent.{Absent}
+use Rattle.streams.specs.declared.stream.Absent.TheVariants as absent
+use Rattle.streams.specs.declared.refusal.Refusal.{Refusal}
 
 -- What follows from the two indexes and the record bytes of a header: they are handed on with the place where the records stop. "At 8 first index, at
 -- least 0x1000; at 12 end index, at least the first and at most 0x80000000; at 16 record bytes, at most the length less 56."
@@ -53,26 +55,49 @@ tiled n s = passed n s 56 (λ at. eqb at (length s)) false
 abbrev pub none : Stream
 none = record { first = 0; end = 0; stop = 0 }
 
+-- The numbers of a header as a stream, where it has one.
+abbrev pub headed : ℕ → ℕ → ℕ → Option Stream
+headed first end stop = Some (record { first = first; end = end; stop = stop })
+
+-- The record that stands for an index.
+abbrev pub stands : ℕ → ℕ → ℕ → Result RecordAt Absent
+stands kind start end = Ok (record { kind = kind; start = start; end = end })
+
 -- Whether a stream is one of no ids. "An id stream of length 0 now means no ids at all .. The type stream keeps its header." (document 02, Note 1)
 unfoldable pub no_ids : StreamKind → List ℕ → Bool
 no_ids stream.Types s = false
 no_ids stream.Ids s = eqb (length s) 0
 
 -- The check of a stream with a broken header: 3, but "Refusal 3 is no longer given for an id stream of length 0" (Note 1).
-unfoldable pub headless : StreamKind → List ℕ → StreamCheck
-headless which s = pick (no_ids which s) (Good none) (Refused (Header which))
+unfoldable pub headless : StreamKind → List ℕ → Result Stream Refusal
+headless which s = pick (no_ids which s) (Ok none) (Err (Header which))
 
 -- The check of a stream: 3 where the header is broken, 4 where the records do not tile.
-unfoldable pub checked : StreamKind → List ℕ → StreamCheck
+unfoldable pub checked : StreamKind → List ℕ → Result Stream Refusal
 checked which s =
     header s
     (λ first end stop.
-    pick (tiled (end - first) (take stop s)) (Good (record { first = first; end = end; stop = stop })) (Refused (Tiling which)))
+    pick (tiled (end - first) (take stop s)) (Ok (record { first = first; end = end; stop = stop })) (Err (Tiling which)))
     (headless which s)
 
 -- What follows from the record at a place: its kind is handed on, with the place where its fields start and the place behind them.
 unfoldable pub record_at : {A : Type 0} → List ℕ → ℕ → (ℕ → ℕ → ℕ → A) → A → A
 record_at s at found missing = behind s at (λ next. field 2 s (at + 2) (λ kind. found kind (at + 4) next) missing) missing
+
+-- The record behind so many others from a place on.
+unfoldable pub record_behind : ℕ → List ℕ → ℕ → Result RecordAt Absent
+record_behind n s from = passed n s from (λ at. record_at s at stands (Err absent.Missing)) (Err absent.Missing)
+
+-- The number of an index from another on: 8 for one that is before that or not before an end, 6 for one with bit 31 set.
+unfoldable pub number_from : ℕ → ℕ → ℕ → Result ℕ Absent
+number_from first end index =
+    pick (leb 0x8000_0000 index)
+    (Err absent.CrossModule)
+    (pick (ltb index first)
+    (Err absent.Missing)
+    (pick (leb end index)
+    (Err absent.Missing)
+    (Ok (index - first))))
 
 -- What follows from an index, by the walk from a record that stands before it: the index is handed on with the place of its record; 8 for one that is not in
 -- the stream, 6 for one with bit 31 set.

@@ -1,85 +1,63 @@
 // The check of a stream in four chains of records from guessed starts. A guess that is wrong costs time and changes no answer.
-ghost use Rattle.std.specs.Prelude.{◌≡◌, true, ◌≤◌, ◌<◌, ◌+◌, ◌*◌, length};
-ghost use Rattle.streams.specs.Chains.{Linked, Dued, FourBefore, Stretched, Stepped, Finished, ChainedFor};
+ghost use Rattle.std.specs.Prelude.{◌≡◌, true, ◌≤◌, ◌<◌, ◌+◌, ◌*◌, length, OnSome, IfSome};
+ghost use Rattle.streams.specs.Chains.{Apart, Inside, Alike, goals_of, Linked, Dued, FourBefore, Stretched, Stepped, Finished, ChainedFor};
 ghost use Rattle.streams.specs.Places.{NotedFor};
 
-use crate::places::{NotedCheck, Spacing, check_with_stride, entries, least, stride_for, wide};
+use crate::places::{NotedCheck, Spacing, check_with_stride, entries, quartered, stride_for};
 use crate::refusal::StreamKind;
 use crate::short::{before, likely, near_heads, short_chains};
-use crate::stream::{Head, Place, Stream, StreamCheck, behind_record, header_of, two};
-use wire::bytes::shorter;
+use crate::stream::{behind_record, header_of, records_of, two};
 
-// How many records a chain has up to its goal, or that it does not come there or has too many.
-#[derive(Clone, Copy)]
-pub enum Chain {
-    Met(u32),
-    Apart,
-}
-
-// How the places are laid out where the chains meet.
-#[derive(Clone, Copy)]
-pub enum Chains {
-    Met(Spacing),
-    Apart,
-}
-
-// How many entries are noted, and after how many records the next is due.
-#[derive(Clone, Copy)]
-pub struct Due {
-    pub k: usize,
-    pub wait: u32,
-}
-
-#[derive(Clone, Copy)]
-pub enum FourPlaces {
-    At(usize, usize, usize, usize),
-    Beyond,
-}
-
-// Where four chains are, each so many records from where it was.
-#[derive(Clone, Copy)]
+// Four places.
+#[derive(Clone, Copy, PartialEq, Eq, Debug)]
 pub struct Four {
     pub a: usize,
     pub b: usize,
     pub c: usize,
     pub d: usize,
+}
+
+// Where four places lead, each so many records on.
+#[derive(Clone, Copy, PartialEq, Eq, Debug)]
+pub struct Lead {
+    pub at: Four,
     pub n: u32,
 }
 
-// Where four chains are, each so many records from its start.
-#[derive(Clone, Copy)]
-pub struct Steps {
-    pub a: usize,
-    pub b: usize,
-    pub c: usize,
-    pub d: usize,
+// How far a chain is: the records that it passed, the entries that it noted, and after how many records the next is due.
+#[derive(Clone, Copy, PartialEq, Eq, Debug)]
+pub struct Pace {
     pub n: u32,
     pub k: usize,
     pub wait: u32,
 }
 
+// Where four chains are, all at one pace.
+#[derive(Clone, Copy, PartialEq, Eq, Debug)]
+pub struct Steps {
+    pub at: Four,
+    pub pace: Pace,
+}
+
 // A place is noted in the next entry of a part, where that is due and there is one.
-fn note(
-    places: &mut [u32],
-    base: usize,
-    room: usize,
-    stride: u32,
-    at: usize,
-    k: usize,
-    wait: u32,
-) -> Due
-    requires { (at < 0x1_0000_0000) × (base + room ≤ length places.old) }
-    ensures { Dued stride room base at k wait places.old places.new result }
+fn note(part: &mut [u32], stride: u32, at: usize, pace: Pace) -> Pace
+    requires { at < 0x1_0000_0000 }
+    ensures { Dued stride at pace part.old part.new result }
 {
-    if 0 < wait {
-        return Due { k, wait };
+    if 0 < pace.wait {
+        return pace;
     }
-    if room <= k {
-        return Due { k, wait: stride };
+    if part.len() <= pace.k {
+        return Pace {
+            n: pace.n,
+            k: pace.k,
+            wait: stride,
+        };
     }
-    places[base + k] = at as u32;
-    Due {
-        k: k + 1,
+    part[pace.k] = at as u32;
+    Pace {
+        n: pace.n,
+        k: pace.k + 1,
         wait: stride,
     }
 }
@@ -89,216 +67,127 @@ fn note(
 fn finish(
     s: &[u8],
     from: usize,
-    start: usize,
     goal: usize,
-    number: u32,
-    noted: usize,
-    due: u32,
+    start: usize,
+    steps: Pace,
     stride: u32,
-    room: usize,
-    base: usize,
-    places: &mut [u32],
-) -> Chain
-    requires linked { Linked s.now from stride room base places.old start number noted due }
-    requires s_len_bound { (length s.now < 0x1_0000_0000) × (from ≤ length s.now) × (0 < stride) × (base + room ≤ length places.old) × (room < 0x1_0000_0000) }
-    ensures { Finished s.now from goal stride room base places.old places.new result }
+    part: &mut [u32],
+) -> Option<u32>
+    requires linked { Linked s.now from stride part.old start steps }
+    requires bounds { (length s.now < 0x1_0000_0000) × (from ≤ length s.now) × (0 < stride) × (length part.old < 0x1_0000_0000) }
+    ensures { Finished s.now from goal stride part.old part.new result }
 {
     let mut at = start;
-    let mut n = number;
-    let mut k = noted;
-    let mut wait = due;
+    let mut pace = steps;
     while at < goal {
-        let d = note(places, base, room, stride, at, k, wait);
-        let Place::At(next) = behind_record(s, at) else {
-            return Chain::Apart;
-        };
-        at = next;
-        n += 1;
-        k = d.k;
-        wait = d.wait - 1;
+        pace = note(part, stride, at, pace);
+        at = behind_record(s, at)?;
+        pace.n += 1;
+        pace.wait -= 1;
     }
-    if at == goal {
-        if wide(n) <= room * wide(stride) {
-            return Chain::Met(n);
-        }
+    if at == goal && pace.n as usize <= part.len() * (stride as usize) {
+        return Some(pace.n);
     }
-    Chain::Apart
+    None
 }
 
 // The places behind four records, each before its goal.
-fn four_before(
-    s: &[u8],
-    a: usize,
-    x: usize,
-    b: usize,
-    y: usize,
-    c: usize,
-    z: usize,
-    d: usize,
-    w: usize,
-) -> FourPlaces
-    requires { (a < x) × (x < length s.now) × (b < y) × (y < length s.now) × (c < z) × (z < length s.now) × (d < w) × (w < length s.now) }
-    ensures { FourBefore s.now a x b y c z d w result }
+#[tactic(auto, using(crate::proofs::Chained::before_none, crate::proofs::Chained::before_all))]
+pub fn four_before(s: &[u8], at: Four, goals: Four) -> Option<Four>
+    requires { Apart s.now at goals }
+    ensures { FourBefore s.now at goals result }
 {
-    let Place::At(p) = before(s, a, x) else {
-        return FourPlaces::Beyond;
-    };
-    let Place::At(q) = before(s, b, y) else {
-        return FourPlaces::Beyond;
-    };
-    let Place::At(u) = before(s, c, z) else {
-        return FourPlaces::Beyond;
-    };
-    let Place::At(v) = before(s, d, w) else {
-        return FourPlaces::Beyond;
-    };
-    FourPlaces::At(p, q, u, v)
+    Some(Four {
+        a: before(s, at.a, goals.a)?,
+        b: before(s, at.b, goals.b)?,
+        c: before(s, at.c, goals.c)?,
+        d: before(s, at.d, goals.d)?,
+    })
 }
 
-// At most so many records of each of four chains, in lockstep, until one is at its goal. All are before their goals.
-fn in_step(
-    s: &[u8],
-    a: usize,
-    b: usize,
-    c: usize,
-    d: usize,
-    x: usize,
-    y: usize,
-    z: usize,
-    w: usize,
-    most: u32,
-) -> Four
-    requires { (a < x) × (x < length s.now) × (b < y) × (y < length s.now) × (c < z) × (z < length s.now) × (d < w) × (w < length s.now) }
-    ensures { Stretched s.now a b c d most result }
+// At most so many records from each of four places, in lockstep, until one is at its goal. All are before their goals.
+fn in_step(s: &[u8], from: Four, goals: Four, most: u32) -> Lead
+    requires { Apart s.now from goals }
+    ensures { Stretched s.now from most result }
 {
-    let mut p = a;
-    let mut q = b;
-    let mut u = c;
-    let mut v = d;
-    let mut n: u32 = 0;
-    while n < most {
-        let FourPlaces::At(p2, q2, u2, v2) = four_before(s, p, x, q, y, u, z, v, w) else {
-            return four_at(p, q, u, v, n);
+    let mut at = from;
+    for n in 0..most {
+        let Some(next) = four_before(s, at, goals) else {
+            return Lead { at, n };
         };
-        p = p2;
-        q = q2;
-        u = u2;
-        v = v2;
-        n += 1;
+        at = next;
     }
-    four_at(p, q, u, v, n)
-}
-
-fn four_at(a: usize, b: usize, c: usize, d: usize, n: u32) -> Four
-    ensures { result ≡ (record { a = a; b = b; c = c; d = d; n = n }) }
-{
-    Four { a, b, c, d, n }
+    Lead { at, n: most }
 }
 
 // Whether a place is before its goal, and that inside.
-fn lies_before(at: usize, goal: usize, end: usize) -> bool
-    ensures { result ≡ true → (at < goal) × (goal < end) }
+fn lies_before(s: &[u8], at: usize, goal: usize) -> bool
+    ensures { result ≡ true → (at < goal) × (goal < length s.now) }
 {
-    if at < goal {
-        if goal < end {
-            return true;
-        }
-    }
-    false
+    at < goal && goal < s.len()
 }
 
-// The same, where the last chain goes to the end of the stream.
-fn in_step_to_end(
-    s: &[u8],
-    a: usize,
-    b: usize,
-    c: usize,
-    d: usize,
-    x: usize,
-    y: usize,
-    z: usize,
-    most: u32,
-) -> Four
-    requires { (a < x) × (x < length s.now) × (b < y) × (y < length s.now) × (c < z) × (z < length s.now) }
-    ensures { Stretched s.now a b c d most result }
+// The same, from anywhere to anywhere: no step where a place is not before its goal.
+pub fn stretch(s: &[u8], from: Four, goals: Four, most: u32) -> Lead
+    ensures { Stretched s.now from most result }
 {
-    let w = s.len() - 1;
-    if w <= d {
-        return four_at(a, b, c, d, 0);
+    if lies_before(s, from.a, goals.a)
+        && lies_before(s, from.b, goals.b)
+        && lies_before(s, from.c, goals.c)
+        && lies_before(s, from.d, goals.d)
+    {
+        return in_step(s, from, goals, most);
     }
-    in_step(s, a, b, c, d, x, y, z, w, most)
+    Lead { at: from, n: 0 }
 }
 
-// The same, from anywhere to anywhere: no step where a chain is not before its goal.
-pub fn stretch(
-    s: &[u8],
-    a: usize,
-    b: usize,
-    c: usize,
-    d: usize,
-    x: usize,
-    y: usize,
-    z: usize,
-    most: u32,
-) -> Four
-    ensures { Stretched s.now a b c d most result }
+// The goals of four chains: where the next starts, or the last byte.
+pub fn goals_of(s: &[u8], starts: Four) -> Four
+    requires { 0 < length s.now }
+    ensures { result ≡ goals_of s.now starts }
 {
-    let end = s.len();
-    if lies_before(a, x, end) {
-        if lies_before(b, y, end) {
-            if lies_before(c, z, end) {
-                return in_step_to_end(s, a, b, c, d, x, y, z, most);
-            }
-        }
+    Four {
+        a: starts.b,
+        b: starts.c,
+        c: starts.d,
+        d: s.len() - 1,
     }
-    four_at(a, b, c, d, 0)
 }
 
 // Four chains, in lockstep until one is at its goal; each notes its places in its own part.
 fn lockstep(
     s: &[u8],
-    x: usize,
-    y: usize,
-    z: usize,
+    starts: Four,
     stride: u32,
-    room: usize,
-    places: &mut [u32],
+    a: &mut [u32],
+    b: &mut [u32],
+    c: &mut [u32],
+    d: &mut [u32],
 ) -> Steps
-    requires { (length s.now < 0x1_0000_0000) × (56 ≤ length s.now) × (x ≤ length s.now) × (y ≤ length s.now) × (z ≤ length s.now) × (0 < stride) × (4 * room ≤ length places.old) }
-    ensures { Stepped s.now x y z stride room places.old places.new result }
+    requires { (length s.now < 0x1_0000_0000) × (0 < length s.now) × Inside s.now starts × (0 < stride) × Alike a.old b.old c.old d.old }
+    ensures { Stepped s.now starts stride a.old b.old c.old d.old a.new b.new c.new d.new result }
 {
-    let third = 2 * room;
-    let fourth = 3 * room;
-    let mut a: usize = 56;
-    let mut b = x;
-    let mut c = y;
-    let mut d = z;
-    let mut n: u32 = 0;
-    let mut k: usize = 0;
+    let goals = goals_of(s, starts);
+    let mut at = starts;
+    let mut pace = Pace {
+        n: 0,
+        k: 0,
+        wait: 0,
+    };
     loop {
-        let e0 = note(places, 0, room, stride, a, k, 0);
-        let e1 = note(places, room, room, stride, b, k, 0);
-        let e2 = note(places, third, room, stride, c, k, 0);
-        let e3 = note(places, fourth, room, stride, d, k, 0);
-        let wait = e3.wait;
-        let t = stretch(s, a, b, c, d, x, y, z, wait);
-        let left = wait - t.n;
-        a = t.a;
-        b = t.b;
-        c = t.c;
-        d = t.d;
-        n += t.n;
-        k = e3.k;
-        if 0 < left {
-            return Steps {
-                a,
-                b,
-                c,
-                d,
-                n,
-                k,
-                wait: left,
-            };
+        note(a, stride, at.a, pace);
+        note(b, stride, at.b, pace);
+        note(c, stride, at.c, pace);
+        let due = note(d, stride, at.d, pace);
+        let t = stretch(s, at, goals, due.wait);
+        at = t.at;
+        pace = Pace {
+            n: due.n + t.n,
+            k: due.k,
+            wait: due.wait - t.n,
+        };
+        if 0 < pace.wait {
+            return Steps { at, pace };
         }
     }
 }
@@ -309,80 +198,52 @@ fn chained(
     count: u32,
     stride: u32,
     room: u32,
-    x: usize,
-    y: usize,
-    z: usize,
+    starts: Four,
     places: &mut [u32],
-) -> Chains
-    requires { (length s.now < 0x1_0000_0000) × (56 ≤ length s.now) × (x ≤ length s.now) × (y ≤ length s.now) × (z ≤ length s.now) × (0 < stride) × (4 * room ≤ length places.old) × (0 < room) }
+) -> Option<Spacing>
+    requires { (length s.now < 0x1_0000_0000) × (starts.a ≡ 56) × Inside s.now starts × (0 < stride) × (4 * room ≤ length places.old) × (0 < room) }
     ensures { ChainedFor s.now count places.old places.new result }
 {
-    let r = wide(room);
-    let r2 = 2 * r;
-    let r3 = 3 * r;
-    let t = lockstep(s, x, y, z, stride, r, places);
-    let Chain::Met(e) = finish(s, 56, t.a, x, t.n, t.k, t.wait, stride, r, 0, places) else {
-        return Chains::Apart;
-    };
-    let Chain::Met(f) = finish(s, x, t.b, y, t.n, t.k, t.wait, stride, r, r, places) else {
-        return Chains::Apart;
-    };
-    let Chain::Met(g) = finish(s, y, t.c, z, t.n, t.k, t.wait, stride, r, r2, places) else {
-        return Chains::Apart;
-    };
-    let Chain::Met(h) = finish(s, z, t.d, s.len(), t.n, t.k, t.wait, stride, r, r3, places) else {
-        return Chains::Apart;
-    };
-    let third = e + f;
-    let fourth = third + g;
-    if fourth + h == count {
-        return Chains::Met(Spacing {
-            stride,
-            room,
-            second: e,
-            third,
-            fourth,
-        });
+    let (a, rest) = places.split_at_mut(room as usize);
+    let (b, rest) = rest.split_at_mut(room as usize);
+    let (c, rest) = rest.split_at_mut(room as usize);
+    let (d, _) = rest.split_at_mut(room as usize);
+    let t = lockstep(s, starts, stride, a, b, c, d);
+    let e = finish(s, starts.a, starts.b, t.at.a, t.pace, stride, a)?;
+    let f = finish(s, starts.b, starts.c, t.at.b, t.pace, stride, b)?;
+    let g = finish(s, starts.c, starts.d, t.at.c, t.pace, stride, c)?;
+    let h = finish(s, starts.d, s.len(), t.at.d, t.pace, stride, d)?;
+    let l = quartered(stride, room, e, f, g);
+    if l.fourth + h == count {
+        return Some(l);
     }
-    Chains::Apart
+    None
 }
 
-// The place behind what may be a record; 0 where its head is not likely.
-fn behind_likely(s: &[u8], at: usize) -> usize
+// The place behind what may be a record, where its head is likely.
+fn behind_likely(s: &[u8], at: usize) -> Option<usize>
     requires { (4 ≤ length s.now) × (length s.now < 0x1000_0000) }
-    ensures { 0 < result → at + 4 ≤ length s.now }
+    ensures { OnSome result (at + 4 ≤ length s.now) }
 {
-    if s.len() - 4 < at {
-        return 0;
-    }
-    if !likely(s, at + 2) {
-        return 0;
+    if s.len() - 4 < at || !likely(s, at + 2) {
+        return None;
     }
     let size = two(s, at);
     if size < 2 {
-        return 0;
+        return None;
     }
-    at + 2 + (size as usize)
+    Some(at + 2 + (size as usize))
 }
 
-// The third of three likely heads that follow each other from a place on; 0 where there are not three. What is no head but looks like one mostly leads
-// to a head soon.
-fn third_head(s: &[u8], at: usize) -> usize
+// The third of three likely heads that follow each other from a place on. What is no head but looks like one mostly leads to a head soon.
+fn third_head(s: &[u8], at: usize) -> Option<usize>
     requires { (4 ≤ length s.now) × (length s.now < 0x1000_0000) }
-    ensures { result ≤ length s.now }
+    ensures { IfSome result (λ third. third ≤ length s.now) }
 {
-    let second = behind_likely(s, at);
-    if second == 0 {
-        return 0;
-    }
-    let third = behind_likely(s, second);
-    if third == 0 {
-        return 0;
-    }
-    if behind_likely(s, third) == 0 {
-        return 0;
-    }
-    third
+    let second = behind_likely(s, at)?;
+    let third = behind_likely(s, second)?;
+    behind_likely(s, third)?;
+    Some(third)
 }
 
 // A place behind another where a record may start, sought byte by byte; the end of the stream where none is near.
@@ -390,14 +251,10 @@ fn guess(s: &[u8], from: usize) -> usize
     requires { (4 ≤ length s.now) × (length s.now < 0x1000_0000) × (from < 0x1000_0000) }
     ensures { result ≤ length s.now }
 {
-    let until = shorter(from + 65536, s.len() - 4);
-    let mut at = from;
-    while at < until {
-        let third = third_head(s, at);
-        if 0 < third {
+    for at in from..(from + 65536).min(s.len() - 4) {
+        if let Some(third) = third_head(s, at) {
             return third;
         }
-        at += 1;
     }
     s.len()
 }
@@ -407,41 +264,38 @@ fn quick_guess(s: &[u8], from: usize) -> usize
     requires { (4 ≤ length s.now) × (length s.now < 0x1000_0000) × (from < 0x1000_0000) }
     ensures { result ≤ length s.now }
 {
-    let at = near_heads(s, from, 64);
-    let third = third_head(s, at);
-    if 56 < third {
-        return third;
+    // where none is near, the header is tried
+    let at = near_heads(s, from, 64).unwrap_or(0);
+    match third_head(s, at) {
+        Some(third) if 56 < third => third,
+        _ => guess(s, from),
     }
-    guess(s, from)
 }
 
 // Four chains from the start and three guesses. The stride is the lesser of two: with one, half of the entries serve for the records that there should be;
 // with the other, all of them serve for the most records that so many bytes can hold.
-fn four_chains(s: &[u8], count: u32, places: &mut [u32]) -> Chains
+fn four_chains(s: &[u8], count: u32, places: &mut [u32]) -> Option<Spacing>
     requires { length s.now < 0x1000_0000 }
     ensures { ChainedFor s.now count places.old places.new result }
 {
     let room = entries(places.len()) / 4;
-    if room == 0 {
-        return Chains::Apart;
-    }
-    if s.len() < 56 {
-        return Chains::Apart;
+    if room == 0 || s.len() < 56 {
+        return None;
     }
     let part = (s.len() - 56) / 16 * 4;
-    let x = quick_guess(s, 56 + part);
-    let y = quick_guess(s, 56 + 2 * part);
-    let z = quick_guess(s, 56 + 3 * part);
+    let starts = Four {
+        a: 56,
+        b: quick_guess(s, 56 + part),
+        c: quick_guess(s, 56 + 2 * part),
+        d: quick_guess(s, 56 + 3 * part),
+    };
     let most = ((s.len() - 56) / 4) as u32;
-    let stride = least(
-        stride_for(count, 2 * wide(room)),
-        stride_for(most, 4 * wide(room)),
-    );
-    chained(s, count, stride, room, x, y, z, places)
+    let stride = stride_for(count, 2 * (room as usize)).min(stride_for(most, 4 * (room as usize)));
+    chained(s, count, stride, room, starts, places)
 }
 
 // The chains that suit so many records.
-fn chains_for(s: &[u8], count: u32, places: &mut [u32]) -> Chains
+fn chains_for(s: &[u8], count: u32, places: &mut [u32]) -> Option<Spacing>
     requires { length s.now < 0x1000_0000 }
     ensures { ChainedFor s.now count places.old places.new result }
 {
@@ -451,22 +305,29 @@ fn chains_for(s: &[u8], count: u32, places: &mut [u32]) -> Chains
     four_chains(s, count, places)
 }
 
-// The check of a stream, which notes places: in four chains where there are some records, and else, or where the chains do not meet, in one.
+// The check of a stream in four chains, where there are some records and the chains meet.
+#[tactic(auto, using(crate::proofs::Walk::headed_fits))]
+fn check_in_chains(s: &[u8], which: StreamKind, places: &mut [u32]) -> Option<NotedCheck>
+    ensures { (length places.new ≡ length places.old) × IfSome result (λ r. NotedFor which s.now places.old places.new r) }
+{
+    let stream = header_of(s)?;
+    let count = stream.end - stream.first;
+    if count < 48 {
+        return None;
+    }
+    let spacing = chains_for(records_of(s, stream), count, places)?;
+    Some(NotedCheck {
+        check: Ok(stream),
+        spacing,
+    })
+}
+
+// The check of a stream, which notes places: in four chains, or else in one.
 pub fn check_stream(s: &[u8], which: StreamKind, places: &mut [u32]) -> NotedCheck
     ensures { NotedFor which s.now places.old places.new result }
 {
-    let Head::Good(first, end, stop) = header_of(s) else {
-        return check_with_stride(s, which, 0, places);
-    };
-    let count = end - first;
-    if count < 48 {
-        return check_with_stride(s, which, 0, places);
-    }
-    let Chains::Met(spacing) = chains_for(&s[..stop], count, places) else {
-        return check_with_stride(s, which, 0, places);
-    };
-    NotedCheck {
-        check: StreamCheck::Good(Stream { first, end, stop }),
-        spacing,
+    match check_in_chains(s, which, places) {
+        Some(c) => c,
+        None => check_with_stride(s, which, 0, places),
     }
 }

@@ -3,13 +3,13 @@ ghost use Rattle.std.specs.Prelude.{◌≡◌};
 ghost use Rattle.streams.specs.Refusal.{stream_detail, number_of, detail_of, stream_of_detail, refusal_of};
 
 // Which of the two streams a refusal speaks of.
-#[derive(Clone, Copy)]
+#[derive(Clone, Copy, PartialEq, Eq, Debug)]
 pub enum StreamKind {
     Types,
     Ids,
 }
 
-#[derive(Clone, Copy)]
+#[derive(Clone, Copy, PartialEq, Eq, Debug)]
 pub enum Refusal {
     UnknownFlags(u32),
     PointerSize(u32),
@@ -34,10 +34,10 @@ impl StreamKind {
     pub fn of(detail: u32) -> StreamKind
         ensures { result ≡ stream_of_detail detail }
     {
-        if detail == 0 {
-            return StreamKind::Types;
+        match detail {
+            0 => StreamKind::Types,
+            _ => StreamKind::Ids,
         }
-        StreamKind::Ids
     }
 
     pub fn detail(self) -> u32
@@ -52,6 +52,7 @@ impl StreamKind {
 
 impl Refusal {
     // The refusal of a number with a detail; 16 for a number of none.
+    #[tactic(auto, unfolding(crate::specs::Refusal::refusal_of))]
     pub fn of(number: u32, detail: u32) -> Refusal
         ensures { result ≡ refusal_of number detail }
     {
@@ -104,23 +105,22 @@ impl Refusal {
         ensures { result ≡ detail_of self }
     {
         match self {
-            Refusal::UnknownFlags(flags) => flags,
-            Refusal::PointerSize(size) => size,
-            Refusal::Header(stream) => stream.detail(),
-            Refusal::Tiling(stream) => stream.detail(),
-            Refusal::Malformed(index) => index,
-            Refusal::CrossModule(index) => index,
-            Refusal::UnlistedKind(kind) => kind,
-            Refusal::Missing(index) => index,
-            Refusal::ArgumentTypeNotArgumentList(index) => index,
-            Refusal::FunctionIdIsNotProcedureType(index) => index,
-            Refusal::MemberFunctionIdIsNotMemberFunctionType(index) => index,
-            Refusal::CircularTypeDefinition(index) => index,
-            Refusal::TooManyOpen(index) => index,
-            Refusal::ChainTooLong(index) => index,
+            Refusal::Header(stream) | Refusal::Tiling(stream) => stream.detail(),
+            Refusal::UnknownFlags(n)
+            | Refusal::PointerSize(n)
+            | Refusal::Malformed(n)
+            | Refusal::CrossModule(n)
+            | Refusal::UnlistedKind(n)
+            | Refusal::Missing(n)
+            | Refusal::ArgumentTypeNotArgumentList(n)
+            | Refusal::FunctionIdIsNotProcedureType(n)
+            | Refusal::MemberFunctionIdIsNotMemberFunctionType(n)
+            | Refusal::CircularTypeDefinition(n)
+            | Refusal::TooManyOpen(n)
+            | Refusal::ChainTooLong(n)
+            | Refusal::UnknownCommand(n)
+            | Refusal::WrongPlace(n) => n,
             Refusal::NoRoom => 0,
-            Refusal::UnknownCommand(command) => command,
-            Refusal::WrongPlace(entry) => entry,
         }
     }
 }

@@ -1,64 +1,39 @@
 // A stream: the check of its header and of its records, and the way from an index to its record. Nothing else walks a stream.
 ghost use Rattle.std.specs.Prelude.{◌≡◌, ◌+◌, ◌≤◌, ◌<◌, length, take};
 ghost use Rattle.wire.specs.Field.{number};
-ghost use Rattle.streams.specs.Stream.{none, indexes, header, behind, passed, record_at, walk_from};
-ghost use Rattle.streams.specs.declared.stream.Head.TheVariants as head;
-ghost use Rattle.streams.specs.declared.stream.Place.TheVariants.{At, Beyond};
-ghost use Rattle.streams.specs.declared.stream.CursorRead.TheVariants as cursor;
-ghost use Rattle.streams.specs.declared.stream.Found.TheVariants as found;
+ghost use Rattle.streams.specs.Stream.{none, headed, header, behind, passed, stands, record_at, record_behind, number_from, walk_from};
+ghost use Rattle.streams.specs.declared.stream.Absent.TheVariants as absent;
 
-use crate::refusal::Refusal;
-use wire::bytes::shorter;
-use wire::field::Field32;
+use wire::field::field_at;
 
 // What the check found in a header: the indexes from `first` up to `end`, and the place where the records stop.
-#[derive(Clone, Copy)]
+#[derive(Clone, Copy, PartialEq, Eq, Debug)]
 pub struct Stream {
     pub first: u32,
     pub end: u32,
     pub stop: usize,
 }
 
-#[derive(Clone, Copy)]
-pub enum StreamCheck {
-    Good(Stream),
-    Refused(Refusal),
+// A record: its kind, the place where its fields start, and the place behind it.
+#[derive(Clone, Copy, PartialEq, Eq, Debug)]
+pub struct RecordAt {
+    pub kind: u16,
+    pub start: usize,
+    pub end: usize,
 }
 
-// What stands for an index: the kind of a record and the places of its fields, no record, or an index of another module.
-#[derive(Clone, Copy)]
-pub enum Found {
-    Record { kind: u16, start: usize, end: usize },
+// Why no record stands for an index: there is none, or it is an index of another module.
+#[derive(Clone, Copy, PartialEq, Eq, Debug)]
+pub enum Absent {
     Missing,
     CrossModule,
 }
 
 // An index, and the place where its record stands.
-#[derive(Clone, Copy)]
+#[derive(Clone, Copy, PartialEq, Eq, Debug)]
 pub struct Cursor {
     pub index: u32,
     pub at: usize,
-}
-
-// What a walk to an index came to: its record, no record, or an index of another module.
-#[derive(Clone, Copy)]
-pub enum CursorRead {
-    At(Cursor),
-    Missing,
-    CrossModule,
-}
-
-#[derive(Clone, Copy)]
-pub enum Head {
-    Good(u32, u32, usize),
-    Broken,
-}
-
-// A place that a walk over records came to, or that it went past their end.
-#[derive(Clone, Copy)]
-pub enum Place {
-    At(usize),
-    Beyond,
 }
 
 // No stream: for ids that are not there, and for what was refused.
@@ -72,218 +47,170 @@ pub fn no_stream() -> Stream
     }
 }
 
-fn indexes_of(s: &[u8]) -> Head
-    requires { 56 ≤ length s.now }
-    ensures { result ≡ indexes s.now head.Good head.Broken }
+// The header of a stream, where it has one.
+#[tactic(auto, unfolding(crate::specs::Stream::header, crate::specs::Stream::indexes, wire::specs::Field::field))]
+pub fn header_of(s: &[u8]) -> Option<Stream>
+    ensures { result ≡ header s.now headed None }
 {
-    let Field32::Value(first) = wire::field::u32_at(s, 8) else {
-        return Head::Broken;
-    };
-    let Field32::Value(end) = wire::field::u32_at(s, 12) else {
-        return Head::Broken;
-    };
-    let Field32::Value(bytes) = wire::field::u32_at(s, 16) else {
-        return Head::Broken;
-    };
-    if first < 0x1000 {
-        return Head::Broken;
+    if 16_777_216 < s.len() || s.len() < 56 || field_at::<u32>(s, 4)? != 56 {
+        return None;
     }
-    if end < first {
-        return Head::Broken;
+    let first = field_at::<u32>(s, 8)?;
+    let end = field_at::<u32>(s, 12)?;
+    let bytes = field_at::<u32>(s, 16)? as usize;
+    if first < 0x1000 || end < first || 0x8000_0000 < end || s.len() - 56 < bytes {
+        return None;
     }
-    if 0x8000_0000 < end {
-        return Head::Broken;
-    }
-    if s.len() - 56 < bytes as usize {
-        return Head::Broken;
-    }
-    Head::Good(first, end, 56 + (bytes as usize))
-}
-
-pub fn header_of(s: &[u8]) -> Head
-    ensures { result ≡ header s.now head.Good head.Broken }
-{
-    if 16_777_216 < s.len() {
-        return Head::Broken;
-    }
-    if s.len() < 56 {
-        return Head::Broken;
-    }
-    let Field32::Value(size) = wire::field::u32_at(s, 4) else {
-        return Head::Broken;
-    };
-    if size != 56 {
-        return Head::Broken;
-    }
-    indexes_of(s)
-}
-
-fn byte(b: u8) -> u16
-    ensures { (result ≡ b) × (result < 256) }
-{
-    b as u16
+    Some(Stream {
+        first,
+        end,
+        stop: 56 + bytes,
+    })
 }
 
 // The number that two bytes inside a stream make.
+#[tactic(auto, unfolding(wire::specs::Field::number))]
 pub fn two(s: &[u8], at: usize) -> u16
     requires { at + 2 ≤ length s.now }
     ensures { result ≡ number 2 s.now at }
 {
-    byte(s[at]) + 256 * byte(s[at + 1])
+    u16::from_le_bytes([s[at], s[at + 1]])
 }
 
 // The place behind the record at a place. A record has at least four bytes.
-pub fn behind_record(s: &[u8], at: usize) -> Place
-    ensures { result ≡ behind s.now at At Beyond }
+#[tactic(auto, unfolding(crate::specs::Stream::behind, wire::specs::Field::field))]
+pub fn behind_record(s: &[u8], at: usize) -> Option<usize>
+    ensures { result ≡ behind s.now at Some None }
 {
-    if s.len() < 4 {
-        return Place::Beyond;
-    }
-    if s.len() - 4 < at {
-        return Place::Beyond;
+    if s.len() < 4 || s.len() - 4 < at {
+        return None;
     }
     let len = two(s, at);
     if len < 2 {
-        return Place::Beyond;
+        return None;
     }
     let next = at + 2 + (len as usize);
     if s.len() < next {
-        return Place::Beyond;
+        return None;
     }
-    Place::At(next)
+    Some(next)
 }
 
 // The place behind `count` records from a place on.
-pub fn behind_records(s: &[u8], from: usize, count: u32) -> Place
-    ensures { result ≡ passed count s.now from At Beyond }
+#[tactic(auto, using(crate::proofs::Walk::passed_next, crate::proofs::Walk::passed_stop, crate::proofs::Walk::passed_none))]
+pub fn behind_records(s: &[u8], from: usize, count: u32) -> Option<usize>
+    ensures { result ≡ passed count s.now from Some None }
 {
     let mut at = from;
-    let mut left = count;
-    while 0 < left {
-        let Place::At(next) = behind_record(s, at) else {
-            return Place::Beyond;
-        };
-        at = next;
-        left -= 1;
+    for _ in 0..count {
+        at = behind_record(s, at)?;
     }
-    Place::At(at)
+    Some(at)
 }
 
 // The record at a place.
-pub fn record_at(s: &[u8], at: usize) -> Found
-    ensures { result ≡ record_at s.now at found.Record found.Missing }
+#[tactic(auto, using(crate::proofs::Records::record_found, crate::proofs::Records::record_missed, crate::proofs::Walk::within))]
+pub fn record_at(s: &[u8], at: usize) -> Result<RecordAt, Absent>
+    ensures { result ≡ record_at s.now at stands (Err absent.Missing) }
 {
-    if s.len() < 4 {
-        return Found::Missing;
-    }
-    if s.len() - 4 < at {
-        return Found::Missing;
-    }
-    let bytes = two(s, at);
-    if bytes < 2 {
-        return Found::Missing;
-    }
-    let end = at + 2 + (bytes as usize);
-    if s.len() < end {
-        return Found::Missing;
-    }
-    Found::Record {
+    let end = behind_record(s, at).ok_or(Absent::Missing)?;
+    Ok(RecordAt {
         kind: two(s, at + 2),
         start: at + 4,
         end,
-    }
+    })
 }
 
 // The record behind `count` others from the start. What is past the end of the stream is missed when the next record is read.
-fn record_behind(s: &[u8], count: u32) -> Found
-    ensures { result ≡ passed count s.now 0 (λ at. record_at s.now at found.Record found.Missing) found.Missing }
+#[tactic(auto, using(crate::proofs::Records::behind_out, crate::proofs::Records::behind_few, crate::proofs::Records::behind_none))]
+fn record_behind(s: &[u8], count: u32) -> Result<RecordAt, Absent>
+    ensures { result ≡ record_behind count s.now 0 }
 {
     if s.len() < 4 {
-        return Found::Missing;
+        return Err(Absent::Missing);
     }
     let last = s.len() - 4;
     let mut at = 0;
-    let mut left = count;
-    while 0 < left {
+    for _ in 0..count {
         if last < at {
-            return Found::Missing;
+            return Err(Absent::Missing);
         }
-        let bytes = two(s, at);
-        if bytes < 2 {
-            return Found::Missing;
+        let len = two(s, at);
+        if len < 2 {
+            return Err(Absent::Missing);
         }
-        at = at + 2 + (bytes as usize);
-        left -= 1;
+        at += 2 + (len as usize);
     }
     record_at(s, at)
 }
 
 // The record behind `count` others from a place on. The search is handed the stream only from there on.
-pub fn record_from(s: &[u8], from: usize, count: u32) -> Found
-    ensures { result ≡ passed count s.now from (λ at. record_at s.now at found.Record found.Missing) found.Missing }
+#[tactic(auto, using(crate::proofs::Records::behind_out, crate::proofs::Handed::found_ok, crate::proofs::Handed::found_err, crate::proofs::Handed::found_fits))]
+pub fn record_from(s: &[u8], from: usize, count: u32) -> Result<RecordAt, Absent>
+    ensures { result ≡ record_behind count s.now from }
 {
     if s.len() < from {
-        return Found::Missing;
+        return Err(Absent::Missing);
     }
-    match record_behind(&s[from..], count) {
-        Found::Record { kind, start, end } => Found::Record {
-            kind,
-            start: from + start,
-            end: from + end,
-        },
-        Found::Missing => Found::Missing,
-        Found::CrossModule => Found::CrossModule,
-    }
+    let r = record_behind(&s[from..], count)?;
+    Ok(RecordAt {
+        kind: r.kind,
+        start: from + r.start,
+        end: from + r.end,
+    })
 }
 
 // The place behind `count` records from a place on. They are passed in the stream only from there on.
-fn behind_from(s: &[u8], from: usize, count: u32) -> Place
-    ensures { result ≡ passed count s.now from At Beyond }
+#[tactic(auto, using(crate::proofs::Handed::place_some, crate::proofs::Handed::place_none, crate::proofs::Handed::place_fits))]
+fn behind_from(s: &[u8], from: usize, count: u32) -> Option<usize>
+    ensures { result ≡ passed count s.now from Some None }
 {
     if s.len() < from {
         return behind_records(s, from, count);
     }
-    let Place::At(at) = behind_records(&s[from..], 0, count) else {
-        return Place::Beyond;
-    };
-    Place::At(from + at)
+    let at = behind_records(&s[from..], 0, count)?;
+    Some(from + at)
 }
 
 // The part of a stream where its records are: what is there of it.
+#[tactic(auto, using(crate::proofs::Walk::taken))]
 pub fn records_of<'a>(s: &'a [u8], stream: Stream) -> &'a [u8]
     ensures { result.now ≡ take stream.stop s.now }
 {
-    let stop = shorter(stream.stop, s.len());
-    &s[..stop]
+    &s[..stream.stop.min(s.len())]
+}
+
+// The number of an index from another on, where it is before the end.
+#[tactic(auto, unfolding(crate::specs::Stream::number_from))]
+pub fn number_from(first: u32, end: u32, index: u32) -> Result<u32, Absent>
+    ensures { result ≡ number_from first end index }
+{
+    if 0x8000_0000 <= index {
+        return Err(Absent::CrossModule);
+    }
+    if index < first || end <= index {
+        return Err(Absent::Missing);
+    }
+    Ok(index - first)
 }
 
 // The walk from a record to that of an index.
-pub fn walk_from(s: &[u8], stream: Stream, from: Cursor, index: u32) -> CursorRead
-    ensures { result ≡ walk_from s.now stream from index cursor.At cursor.Missing cursor.CrossModule }
+#[tactic(auto, using(crate::proofs::Walk::passed_to, crate::proofs::Walk::passed_past), unfolding(crate::specs::Stream::walk_from, crate::specs::Stream::number_from))]
+pub fn walk_from(s: &[u8], stream: Stream, from: Cursor, index: u32) -> Result<Cursor, Absent>
+    ensures { result ≡ walk_from s.now stream from index Ok (Err absent.Missing) (Err absent.CrossModule) }
 {
-    let first = from.index;
-    if 0x8000_0000 <= index {
-        return CursorRead::CrossModule;
-    }
-    if index < first {
-        return CursorRead::Missing;
-    }
-    if stream.end <= index {
-        return CursorRead::Missing;
-    }
-    let records = records_of(s, stream);
-    let Place::At(at) = behind_from(records, from.at, index - first) else {
-        return CursorRead::Missing;
-    };
-    CursorRead::At(Cursor { index, at })
+    let n = number_from(from.index, stream.end, index)?;
+    let at = behind_from(records_of(s, stream), from.at, n).ok_or(Absent::Missing)?;
+    Ok(Cursor { index, at })
 }
 
 // Where the record of the next index stands.
-pub fn next_cursor(s: &[u8], stream: Stream, c: Cursor) -> CursorRead
-    ensures { result ≡ walk_from s.now stream c (c.index + 1) cursor.At cursor.Missing cursor.CrossModule }
+#[tactic(auto, unfolding(crate::specs::Stream::walk_from))]
+pub fn next_cursor(s: &[u8], stream: Stream, c: Cursor) -> Result<Cursor, Absent>
+    ensures { result ≡ walk_from s.now stream c (c.index + 1) Ok (Err absent.Missing) (Err absent.CrossModule) }
 {
     if 0x8000_0000 <= c.index {
-        return CursorRead::CrossModule;
+        return Err(Absent::CrossModule);
     }
     walk_from(s, stream, c, c.index + 1)
 }

@@ -2,13 +2,11 @@
 // An argument NAME stands for NAME-types.bin, NAME-ids.bin and NAME-calls.bin; data/README.md has the form of the last.
 #![tactic(auto)]
 
-use checked_calls::answer::Answer;
-use checked_calls::calls::SizeAnswer;
 use codeview::index::{IdIndex, TypeIndex};
 use files::{all, decimal, fill, hex, judge, refused, say, title, within};
 use std::io;
-use std::rt::{Env, Files};
-use wire::field::Field32;
+use std::rt::Files;
+use streams::refusal::Refusal;
 
 // Where a list of calls has been read to, how many calls it made, and what holds for the next one.
 #[derive(Clone, Copy)]
@@ -20,19 +18,13 @@ struct State {
     room: usize,
 }
 
-fn wide(b: u8) -> u32 {
-    b as u32
-}
-
 // The sum of all sums from the start, modulo 2^32.
 fn checksum(text: &[u8]) -> u32 {
     let mut sum: u32 = 0;
     let mut sums: u32 = 0;
-    let mut i = 0;
-    while i < text.len() {
-        sum = sum.wrapping_add(wide(text[i]));
+    for b in text {
+        sum = sum.wrapping_add(u32::from(*b));
         sums = sums.wrapping_add(sum);
-        i += 1;
     }
     sums
 }
@@ -51,25 +43,25 @@ fn show(rt: &impl Print, text: &[u8]) -> io::Result<()> {
     say(rt, &text[..k])
 }
 
-fn text_answer(rt: &impl Print, out: &[u8], a: Answer) -> io::Result<()> {
+fn text_answer(rt: &impl Print, out: &[u8], a: Result<usize, Refusal>) -> io::Result<()> {
     match a {
-        Answer::Text(n) => {
+        Ok(n) => {
             say(rt, b" 0 0x0")?;
             let k = within(n, out);
             show(rt, &out[..k])?;
             judge(rt, all(out, n, 0xaa))
         }
-        Answer::Refused(f) => {
+        Err(f) => {
             refused(rt, f)?;
             judge(rt, all(out, 0, 0))
         }
     }
 }
 
-fn size_answer(rt: &impl Print, a: SizeAnswer) -> io::Result<()> {
+fn size_answer(rt: &impl Print, a: Result<u64, Refusal>) -> io::Result<()> {
     match a {
-        SizeAnswer::Bytes(n) => decimal(rt, b" 0 0x0 ", n),
-        SizeAnswer::Refused(f) => refused(rt, f),
+        Ok(n) => decimal(rt, b" 0 0x0 ", n),
+        Err(f) => refused(rt, f),
     }
 }
 
@@ -117,19 +109,9 @@ fn size_call(rt: &impl Print, types: &[u8], s: State, index: u32) -> io::Result<
 
 // Copies bytes as far as both slices reach, and answers how many.
 fn copy(from: &[u8], start: usize, count: usize, to: &mut [u8]) -> usize {
-    let mut at = start;
-    let mut n = 0;
-    while n < count {
-        if from.len() <= at {
-            return n;
-        }
-        if to.len() <= n {
-            return n;
-        }
-        to[n] = from[at];
-        at += 1;
-        n += 1;
-    }
+    let rest = from.get(start..).unwrap_or(b"");
+    let n = count.min(rest.len()).min(to.len());
+    to[..n].copy_from_slice(&rest[..n]);
     n
 }
 
@@ -144,19 +126,12 @@ fn chosen(
     name: &[u8],
     index: u32,
 ) -> io::Result<()> {
-    if command == 0x10 {
-        type_call(rt, types, out, s, index)?;
-        return Ok(());
+    match command {
+        0x10 => type_call(rt, types, out, s, index),
+        0x11 => size_call(rt, types, s, index),
+        0x12 => id_call(rt, types, ids, out, s, index),
+        _ => function_call(rt, types, out, s, name, index),
     }
-    if command == 0x11 {
-        size_call(rt, types, s, index)?;
-        return Ok(());
-    }
-    if command == 0x12 {
-        id_call(rt, types, ids, out, s, index)?;
-        return Ok(());
-    }
-    function_call(rt, types, out, s, name, index)
 }
 
 // A line for a call, on a buffer of just the length that is set.
@@ -210,39 +185,7 @@ fn behind(s: State, at: usize, calls: u64) -> State {
     State {
         at,
         number: s.number.wrapping_add(calls),
-        flags: s.flags,
-        size: s.size,
-        room: s.room,
-    }
-}
-
-fn set_flags(s: State, flags: u32) -> State {
-    State {
-        at: s.at,
-        number: s.number,
-        flags,
-        size: s.size,
-        room: s.room,
-    }
-}
-
-fn set_size(s: State, size: u32) -> State {
-    State {
-        at: s.at,
-        number: s.number,
-        flags: s.flags,
-        size,
-        room: s.room,
-    }
-}
-
-fn set_room(s: State, room: u32) -> State {
-    State {
-        at: s.at,
-        number: s.number,
-        flags: s.flags,
-        size: s.size,
-        room: room as usize,
+        ..s
     }
 }
 
@@ -250,10 +193,6 @@ fn set_room(s: State, room: u32) -> State {
 fn broken(rt: &impl Print, calls: &[u8], s: State) -> io::Result<State> {
     say(rt, b"calls broken\n")?;
     Ok(behind(s, calls.len(), 0))
-}
-
-fn long(b: u8) -> usize {
-    b as usize
 }
 
 // A function's call has its name behind the index: a length and so many bytes.
@@ -268,7 +207,7 @@ fn named_call(
     if calls.len() <= at {
         return broken(rt, calls, s);
     }
-    let count = long(calls[at]);
+    let count = usize::from(calls[at]);
     let start = at.wrapping_add(1);
     let mut name = files::buffer();
     let n = copy(calls, start, count, &mut name);
@@ -300,25 +239,17 @@ fn act(
     command: u8,
     value: u32,
 ) -> io::Result<State> {
-    if command == 0x01 {
-        return Ok(set_flags(s, value));
+    match command {
+        0x01 => Ok(State { flags: value, ..s }),
+        0x02 => Ok(State { size: value, ..s }),
+        0x03 => Ok(State {
+            room: value as usize,
+            ..s
+        }),
+        0x10..=0x12 => plain_call(rt, types, ids, s, command, value),
+        0x13 => named_call(rt, types, calls, s, value),
+        _ => broken(rt, calls, s),
     }
-    if command == 0x02 {
-        return Ok(set_size(s, value));
-    }
-    if command == 0x03 {
-        return Ok(set_room(s, value));
-    }
-    if command == 0x13 {
-        return named_call(rt, types, calls, s, value);
-    }
-    if command < 0x10 {
-        return broken(rt, calls, s);
-    }
-    if 0x13 < command {
-        return broken(rt, calls, s);
-    }
-    plain_call(rt, types, ids, s, command, value)
 }
 
 fn step(rt: &impl Print, types: &[u8], ids: &[u8], calls: &[u8], s: State) -> io::Result<State> {
@@ -328,9 +259,9 @@ fn step(rt: &impl Print, types: &[u8], ids: &[u8], calls: &[u8], s: State) -> io
     }
     let command = calls[at];
     let t = behind(s, at.wrapping_add(5), 0);
-    match wire::field::u32_at(calls, at.wrapping_add(1)) {
-        Field32::Value(value) => act(rt, types, ids, calls, t, command, value),
-        Field32::Outside => broken(rt, calls, s),
+    match wire::field::field_at::<u32>(calls, at.wrapping_add(1)) {
+        Some(value) => act(rt, types, ids, calls, t, command, value),
+        None => broken(rt, calls, s),
     }
 }
 
@@ -373,21 +304,6 @@ fn show_case<R: Files + Print + Eprint>(rt: &R, name: &[u8]) -> io::Result<()> {
     run(rt, &types[..t], &ids[..u], &calls[..c])
 }
 
-// Whether there is such an argument.
-fn argument<R: Env + Files + Print + Eprint>(rt: &R, i: usize) -> io::Result<bool> {
-    let mut name = files::buffer();
-    let Some(n) = files::argument(rt, i, &mut name) else {
-        return Ok(false);
-    };
-    show_case(rt, &name[..n])?;
-    Ok(true)
-}
-
 fn main(rt: HostRuntime) -> io::Result<()> {
-    for i in 1..usize::MAX {
-        if !argument(&rt, i)? {
-            break;
-        }
-    }
-    Ok(())
+    files::for_each_argument(&rt, |name| show_case(&rt, name))
 }

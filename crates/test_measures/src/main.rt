@@ -4,13 +4,13 @@
 #![tactic(auto)]
 
 use codeview::index::{IdIndex, TypeIndex};
-use files::{decimal, entries_within, load_if_there, load_named, numbers, refused, say, title};
+use files::{decimal, load_if_there, load_named, numbers, refused, say, title, within};
 use leaf_writers::names::name_of;
-use measures::answer::Measure;
+use measures::answer::Extent;
 use measures::placed;
 use sheet::command::Command;
 use std::io;
-use std::rt::{Env, Files};
+use std::rt::Files;
 use streams::refusal::Refusal;
 use wire::name::Name;
 
@@ -24,20 +24,14 @@ struct State {
     lent: bool,
 }
 
-fn long(n: u32) -> usize {
-    n as usize
-}
-
-fn line(rt: &impl Print, s: State, m: Measure) -> io::Result<State> {
+fn line(rt: &impl Print, s: State, m: Result<Extent, Refusal>) -> io::Result<State> {
     decimal(rt, b"", s.number)?;
     match m {
-        Measure::Text(e) => {
-            let length = e.length;
-            let opened = e.opened;
-            decimal(rt, b" 0 0x0 ", length as u64)?;
-            decimal(rt, b" ", opened)?;
+        Ok(e) => {
+            decimal(rt, b" 0 0x0 ", e.length as u64)?;
+            decimal(rt, b" ", e.opened)?;
         }
-        Measure::Refused(f) => refused(rt, f)?,
+        Err(f) => refused(rt, f)?,
     }
     say(rt, b"\n")?;
     Ok(s)
@@ -114,29 +108,7 @@ fn behind(s: State, width: usize, lines: u64) -> State {
     State {
         at: s.at.wrapping_add(width),
         number: s.number.wrapping_add(lines),
-        flags: s.flags,
-        size: s.size,
-        lent: s.lent,
-    }
-}
-
-fn set_flags(s: State, flags: u32) -> State {
-    State {
-        at: s.at,
-        number: s.number,
-        flags,
-        size: s.size,
-        lent: s.lent,
-    }
-}
-
-fn set_size(s: State, size: u32) -> State {
-    State {
-        at: s.at,
-        number: s.number,
-        flags: s.flags,
-        size,
-        lent: s.lent,
+        ..s
     }
 }
 
@@ -161,7 +133,7 @@ fn faulty(rt: &impl Print, sheet: &[u8], s: State, byte: u8) -> io::Result<State
     line(
         rt,
         behind(s, sheet.len(), 1),
-        Measure::Refused(Refusal::UnknownCommand(byte as u32)),
+        Err(Refusal::UnknownCommand(byte as u32)),
     )
 }
 
@@ -175,8 +147,14 @@ fn step(
 ) -> io::Result<State> {
     match sheet::command::command_at(sheet, s.at) {
         Command::End => Ok(s),
-        Command::Flags(n) => Ok(set_flags(behind(s, 5, 0), n)),
-        Command::PointerSize(n) => Ok(set_size(behind(s, 2, 0), n)),
+        Command::Flags(n) => Ok(State {
+            flags: n,
+            ..behind(s, 5, 0)
+        }),
+        Command::PointerSize(n) => Ok(State {
+            size: n,
+            ..behind(s, 2, 0)
+        }),
         Command::TypeText(i) => type_line(rt, types, places, behind(s, 5, 1), i),
         Command::TypeSize(i) => Ok(behind(s, 5, 0)),
         Command::IdText(i) => id_line(rt, types, ids, places, behind(s, 5, 1), i),
@@ -220,7 +198,7 @@ fn run_lent(
     count: usize,
     entries: &[u32],
 ) -> io::Result<()> {
-    let k = entries_within(count, entries);
+    let k = within(count, entries);
     run(rt, types, ids, &entries[..k], sheet, true)
 }
 
@@ -235,7 +213,7 @@ fn run_case(
     if given.len() == 0 {
         return run(rt, types, ids, given, sheet, false);
     }
-    run_lent(rt, types, ids, sheet, long(given[0]), &given[1..])
+    run_lent(rt, types, ids, sheet, given[0] as usize, &given[1..])
 }
 
 fn show_sheet<R: Files + Print + Eprint>(
@@ -249,7 +227,7 @@ fn show_sheet<R: Files + Print + Eprint>(
     let n = load_if_there(rt, name, b"-places.bin", &mut bytes)?;
     let mut given = [0u32; 4096];
     let count = numbers(&bytes[..n], &mut given);
-    let k = entries_within(count, &given);
+    let k = within(count, &given);
     run_case(rt, types, ids, sheet, &given[..k])
 }
 
@@ -264,21 +242,6 @@ fn show_case<R: Files + Print + Eprint>(rt: &R, name: &[u8]) -> io::Result<()> {
     show_sheet(rt, name, &types[..t], &ids[..u], &sheet[..n])
 }
 
-// Whether there is such an argument.
-fn argument<R: Env + Files + Print + Eprint>(rt: &R, i: usize) -> io::Result<bool> {
-    let mut name = files::buffer();
-    let Some(n) = files::argument(rt, i, &mut name) else {
-        return Ok(false);
-    };
-    show_case(rt, &name[..n])?;
-    Ok(true)
-}
-
 fn main(rt: HostRuntime) -> io::Result<()> {
-    for i in 1..usize::MAX {
-        if !argument(&rt, i)? {
-            break;
-        }
-    }
-    Ok(())
+    files::for_each_argument(&rt, |name| show_case(&rt, name))
 }

@@ -2,17 +2,12 @@
 // An argument NAME stands for NAME-types.bin, NAME-ids.bin, NAME-places.bin, NAME-sheet.bin and NAME-lengths.bin; data/README.md says what these are.
 #![tactic(auto)]
 
-use checked_calls::answer::Answer;
-use checked_calls::calls::SizeAnswer;
 use codeview::index::{IdIndex, TypeIndex};
-use files::{
-    all, decimal, entries_within, fill, judge, load_named, numbers, refused, say, title, within,
-};
+use files::{all, decimal, fill, judge, load_named, numbers, refused, say, title, within};
 use leaf_writers::names::name_of;
-use record_places::PlacesAnswer;
 use sheet::command::Command;
 use std::io;
-use std::rt::{Env, Files};
+use std::rt::Files;
 use streams::refusal::Refusal;
 use type_formatter::placed;
 use wire::name::Name;
@@ -26,45 +21,31 @@ struct State {
     size: u32,
 }
 
-fn wide(n: u32) -> u64 {
-    n as u64
-}
-
-fn long(n: u32) -> usize {
-    n as usize
-}
-
 // The pass is lent entries full of this number.
 fn fill_entries(places: &mut [u32]) {
-    let mut i = 0;
-    while i < places.len() {
-        places[i] = 0xaaaa_aaaa;
-        i += 1;
-    }
+    places.fill(0xaaaa_aaaa);
 }
 
 // Whether all entries from a number on are this one.
 fn all_entries(places: &[u32], from: usize, entry: u32) -> bool {
-    let mut i = from;
-    while i < places.len() {
-        if places[i] != entry {
-            return false;
-        }
-        i += 1;
-    }
-    true
+    places.iter().skip(from).all(|e| *e == entry)
 }
 
-fn text_line(rt: &impl Print, out: &[u8], number: u64, a: Answer) -> io::Result<()> {
+fn text_line(
+    rt: &impl Print,
+    out: &[u8],
+    number: u64,
+    a: Result<usize, Refusal>,
+) -> io::Result<()> {
     decimal(rt, b"", number)?;
     match a {
-        Answer::Text(n) => {
+        Ok(n) => {
             say(rt, b" 0 0x0 ")?;
             let k = within(n, out);
             say(rt, &out[..k])?;
             judge(rt, all(out, n, 0xaa))?;
         }
-        Answer::Refused(f) => {
+        Err(f) => {
             refused(rt, f)?;
             judge(rt, all(out, 0, 0))?;
         }
@@ -72,11 +53,11 @@ fn text_line(rt: &impl Print, out: &[u8], number: u64, a: Answer) -> io::Result<
     say(rt, b"\n")
 }
 
-fn size_line(rt: &impl Print, number: u64, a: SizeAnswer) -> io::Result<()> {
+fn size_line(rt: &impl Print, number: u64, a: Result<u64, Refusal>) -> io::Result<()> {
     decimal(rt, b"", number)?;
     match a {
-        SizeAnswer::Bytes(n) => decimal(rt, b" 0 0x0 ", n)?,
-        SizeAnswer::Refused(f) => refused(rt, f)?,
+        Ok(n) => decimal(rt, b" 0 0x0 ", n)?,
+        Err(f) => refused(rt, f)?,
     }
     say(rt, b"\n")
 }
@@ -159,26 +140,7 @@ fn behind(s: State, width: usize) -> State {
     State {
         at: s.at.wrapping_add(width),
         number: s.number.wrapping_add(1),
-        flags: s.flags,
-        size: s.size,
-    }
-}
-
-fn set_flags(s: State, flags: u32) -> State {
-    State {
-        at: s.at.wrapping_add(5),
-        number: s.number,
-        flags,
-        size: s.size,
-    }
-}
-
-fn set_size(s: State, size: u32) -> State {
-    State {
-        at: s.at.wrapping_add(2),
-        number: s.number,
-        flags: s.flags,
-        size,
+        ..s
     }
 }
 
@@ -205,9 +167,7 @@ fn faulty(rt: &impl Print, sheet: &[u8], s: State, byte: u8) -> io::Result<State
     say(rt, b"\n")?;
     Ok(State {
         at: sheet.len(),
-        number: s.number,
-        flags: s.flags,
-        size: s.size,
+        ..s
     })
 }
 
@@ -221,8 +181,16 @@ fn step(
 ) -> io::Result<State> {
     match sheet::command::command_at(sheet, s.at) {
         Command::End => Ok(s),
-        Command::Flags(n) => Ok(set_flags(s, n)),
-        Command::PointerSize(n) => Ok(set_size(s, n)),
+        Command::Flags(flags) => Ok(State {
+            at: s.at.wrapping_add(5),
+            flags,
+            ..s
+        }),
+        Command::PointerSize(size) => Ok(State {
+            at: s.at.wrapping_add(2),
+            size,
+            ..s
+        }),
         Command::TypeText(i) => type_text(rt, types, places, behind(s, 5), i),
         Command::TypeSize(i) => type_size(rt, types, places, behind(s, 5), i),
         Command::IdText(i) => id_text(rt, types, ids, places, behind(s, 5), i),
@@ -250,13 +218,8 @@ fn run(rt: &impl Print, types: &[u8], ids: &[u8], places: &[u32], sheet: &[u8]) 
 }
 
 fn entries(rt: &impl Print, places: &[u32], count: usize) -> io::Result<()> {
-    let mut i = 0;
-    while i < count {
-        if places.len() <= i {
-            return Ok(());
-        }
-        decimal(rt, b" ", wide(places[i]))?;
-        i += 1;
+    for place in places.iter().take(count) {
+        decimal(rt, b" ", u64::from(*place))?;
     }
     Ok(())
 }
@@ -268,14 +231,14 @@ fn zeros(rt: &impl Print, right: bool) -> io::Result<()> {
     judge(rt, right)
 }
 
-fn places_answer(rt: &impl Print, places: &[u32], a: PlacesAnswer) -> io::Result<()> {
+fn places_answer(rt: &impl Print, places: &[u32], a: Result<usize, Refusal>) -> io::Result<()> {
     match a {
-        PlacesAnswer::Filled(n) => {
+        Ok(n) => {
             say(rt, b" 0 0x0")?;
             entries(rt, places, n)?;
             judge(rt, all_entries(places, n, 0xaaaa_aaaa))
         }
-        PlacesAnswer::Refused(f) => {
+        Err(f) => {
             refused(rt, f)?;
             zeros(rt, all_entries(places, 0, 0))
         }
@@ -292,7 +255,7 @@ fn pass_line(rt: &impl Print, types: &[u8], places: &mut [u32]) -> io::Result<()
 }
 
 fn pass_within(rt: &impl Print, types: &[u8], places: &mut [u32], length: usize) -> io::Result<()> {
-    let k = entries_within(length, places);
+    let k = within(length, places);
     pass_line(rt, types, &mut places[..k])
 }
 
@@ -303,10 +266,8 @@ fn pass(rt: &impl Print, types: &[u8], length: usize) -> io::Result<()> {
 }
 
 fn passes(rt: &impl Print, types: &[u8], lengths: &[u32]) -> io::Result<()> {
-    let mut i = 0;
-    while i < lengths.len() {
-        pass(rt, types, long(lengths[i]))?;
-        i += 1;
+    for length in lengths {
+        pass(rt, types, *length as usize)?;
     }
     Ok(())
 }
@@ -323,7 +284,7 @@ fn show_sheet<R: Files + Print + Eprint>(
     let n = load_named(rt, name, b"-places.bin", &mut bytes)?;
     let mut places = [0u32; 4096];
     let count = numbers(&bytes[..n], &mut places);
-    let k = entries_within(count, &places);
+    let k = within(count, &places);
     run(rt, types, ids, &places[..k], sheet)
 }
 
@@ -333,7 +294,7 @@ fn show_passes<R: Files + Print + Eprint>(rt: &R, name: &[u8], types: &[u8]) -> 
     let n = load_named(rt, name, b"-lengths.bin", &mut bytes)?;
     let mut lengths = [0u32; 64];
     let count = numbers(&bytes[..n], &mut lengths);
-    let k = entries_within(count, &lengths);
+    let k = within(count, &lengths);
     passes(rt, types, &lengths[..k])
 }
 
@@ -349,21 +310,6 @@ fn show_case<R: Files + Print + Eprint>(rt: &R, name: &[u8]) -> io::Result<()> {
     show_passes(rt, name, &types[..t])
 }
 
-// Whether there is such an argument.
-fn argument<R: Env + Files + Print + Eprint>(rt: &R, i: usize) -> io::Result<bool> {
-    let mut name = files::buffer();
-    let Some(n) = files::argument(rt, i, &mut name) else {
-        return Ok(false);
-    };
-    show_case(rt, &name[..n])?;
-    Ok(true)
-}
-
 fn main(rt: HostRuntime) -> io::Result<()> {
-    for i in 1..usize::MAX {
-        if !argument(&rt, i)? {
-            break;
-        }
-    }
-    Ok(())
+    files::for_each_argument(&rt, |name| show_case(&rt, name))
 }

@@ -2,7 +2,7 @@
 #![tactic(auto)]
 
 use std::io;
-use std::rt::{Env, Files};
+use std::rt::Files;
 
 // The least buffer that takes every line, so that a long sheet is printed in many turns.
 fn line_buffer() -> [u8; 4150] {
@@ -21,21 +21,6 @@ fn show<R: Files + Print + Eprint>(rt: &R, name: &[u8]) -> io::Result<()> {
     Ok(())
 }
 
-// Whether there is such an argument.
-fn argument<R: Env + Files + Print + Eprint>(rt: &R, i: usize) -> io::Result<bool> {
-    let mut name = files::buffer();
-    let Some(n) = files::argument(rt, i, &mut name) else {
-        return Ok(false);
-    };
-    show(rt, &name[..n])?;
-    Ok(true)
-}
-
 fn main(rt: HostRuntime) -> io::Result<()> {
-    for i in 1..usize::MAX {
-        if !argument(&rt, i)? {
-            break;
-        }
-    }
-    Ok(())
+    files::for_each_argument(&rt, |name| show(&rt, name))
 }

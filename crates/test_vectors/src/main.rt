@@ -2,15 +2,12 @@
 // An argument NAME stands for NAME-types.bin and NAME-ids.bin.
 #![tactic(auto)]
 
-use checked_calls::answer::Answer;
-use checked_calls::calls::SizeAnswer;
 use codeview::index::{IdIndex, TypeIndex};
 use files::{decimal, hex, refused, say};
 use std::io;
-use std::rt::{Env, Files};
+use std::rt::Files;
 use streams::chains::check_stream;
-use streams::refusal::StreamKind;
-use streams::stream::StreamCheck;
+use streams::refusal::{Refusal, StreamKind};
 
 // Which of the four calls is made.
 #[derive(Clone, Copy)]
@@ -27,10 +24,10 @@ fn show(rt: &impl Print, out: &[u8], n: usize) -> io::Result<()> {
     say(rt, &out[..k])
 }
 
-fn text_answer(rt: &impl Print, out: &[u8], a: Answer) -> io::Result<()> {
+fn text_answer(rt: &impl Print, out: &[u8], a: Result<usize, Refusal>) -> io::Result<()> {
     match a {
-        Answer::Text(n) => show(rt, out, n),
-        Answer::Refused(f) => refused(rt, f),
+        Ok(n) => show(rt, out, n),
+        Err(f) => refused(rt, f),
     }
 }
 
@@ -54,8 +51,8 @@ fn function_call(rt: &impl Print, types: &[u8], flags: u32, index: u32) -> io::R
 
 fn size_call(rt: &impl Print, types: &[u8], index: u32) -> io::Result<()> {
     match type_formatter::get_type_size(types, 8, TypeIndex(index)) {
-        SizeAnswer::Bytes(n) => decimal(rt, b" 0 0x0 ", n),
-        SizeAnswer::Refused(f) => refused(rt, f),
+        Ok(n) => decimal(rt, b" 0 0x0 ", n),
+        Err(f) => refused(rt, f),
     }
 }
 
@@ -86,10 +83,8 @@ fn lines(
     first: u32,
     end: u32,
 ) -> io::Result<()> {
-    let mut index = first;
-    while index < end {
+    for index in first..end {
         line(rt, types, ids, call, flags, index)?;
-        index += 1;
     }
     Ok(())
 }
@@ -97,28 +92,18 @@ fn lines(
 fn all_types(rt: &impl Print, types: &[u8], call: Call, flags: u32) -> io::Result<()> {
     let mut places = [0u32; 1];
     let a = check_stream(types, StreamKind::Types, &mut places);
-    let c = a.check;
-    match c {
-        StreamCheck::Good(stream) => lines(rt, types, b"", call, flags, stream.first, stream.end),
-        StreamCheck::Refused(_) => say(rt, b"types refused\n"),
+    match a.check {
+        Ok(stream) => lines(rt, types, b"", call, flags, stream.first, stream.end),
+        Err(_) => say(rt, b"types refused\n"),
     }
 }
 
 fn all_ids(rt: &impl Print, types: &[u8], ids: &[u8], flags: u32) -> io::Result<()> {
     let mut places = [0u32; 1];
     let a = check_stream(ids, StreamKind::Ids, &mut places);
-    let c = a.check;
-    match c {
-        StreamCheck::Good(stream) => lines(
-            rt,
-            types,
-            ids,
-            Call::Id,
-            flags,
-            stream.first,
-            stream.end,
-        ),
-        StreamCheck::Refused(_) => say(rt, b"ids refused\n"),
+    match a.check {
+        Ok(stream) => lines(rt, types, ids, Call::Id, flags, stream.first, stream.end),
+        Err(_) => say(rt, b"ids refused\n"),
     }
 }
 
@@ -164,24 +149,9 @@ fn usage(rt: &impl Eprint) -> io::Result<()> {
     )
 }
 
-// Whether there is such an argument.
-fn argument<R: Env + Files + Print + Eprint>(rt: &R, i: usize) -> io::Result<bool> {
-    let mut name = files::buffer();
-    let Some(n) = files::argument(rt, i, &mut name) else {
-        return Ok(false);
-    };
-    show_pair(rt, &name[..n])?;
-    Ok(true)
-}
-
 fn main(rt: HostRuntime) -> io::Result<()> {
     if files::argument_count(&rt) < 2 {
         usage(&rt)?;
     }
-    for i in 1..usize::MAX {
-        if !argument(&rt, i)? {
-            break;
-        }
-    }
-    Ok(())
+    files::for_each_argument(&rt, |name| show_pair(&rt, name))
 }

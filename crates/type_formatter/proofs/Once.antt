@@ -18,17 +18,6 @@ last-number : (a b : NotedCheck) (count : ℕ) (qs : List ℕ) → get_or (bound
 unfolding bounds_of
 last-number a b count qs = refl
 
--- A buffer of which the part from `split` on was lent has as many numbers before it as before.
-module _ (old ys : List ℕ) (split k : ℕ) (h : split ≤ length old) where
-  abbrev lent_part : List ℕ
-  lent_part = take split old ++ (ys ++ drop k (drop split old))
-
-  pub front-inside : split ≤ length lent_part
-  front-inside = omega (arith, length-append (take split old) (ys ++ drop k (drop split old)), length-take-le split old h)
-
-  pub front-requires : 19 ≤ split → length old ≤ 0xffff_ffff → (19 ≤ length (take split lent_part)) × (length (take split lent_part) ≤ 0xffff_ffff)
-  front-requires l m = let e = length-take-le split lent_part front-inside in (omega (arith, e), omega (arith, e))
-
 -- What is kept in one buffer: the places of the types, `ys`, were noted from `split` on, and then what is before it was filled with `zs`.
 module _ (a : NotedCheck) (types ids old ys zs : List ℕ) (split k : ℕ) where
   abbrev pub midway : List ℕ

@@ -2,6 +2,7 @@
 // numbers.
 ghost use Rattle.std.specs.Prelude.{◌≡◌, [], ◌≤◌, length};
 ghost use Rattle.streams.specs.declared.refusal.StreamKind.TheVariants.{Types, Ids};
+ghost use Rattle.rules.specs.Places.{near_in};
 ghost use Rattle.rules.specs.Call.{function_outcome, id_outcome, type_outcome, size_outcome, of_size};
 ghost use Rattle.checked_calls.specs.Answers.{given, laid};
 ghost use Rattle.checked_calls.specs.Checks.{function_over, id_over, type_over, size_over, of_size_answer};
@@ -11,25 +12,22 @@ ghost use Rattle.sheet.specs.Sheet.{sheet_fit, fit_over};
 ghost use Rattle.sheet.specs.Printed.{shown, laid_out, ContinuesOver};
 
 use batch::texts_over;
-use checked_calls::answer::Answer;
-use checked_calls::calls::{SizeAnswer, function_over, id_over, size_over, type_over};
+use checked_calls::calls::{function_over, id_over, size_over, type_over};
 use checked_calls::kept::{check_by, keep_ids, numbers_of, places_behind};
 use codeview::index::{IdIndex, TypeIndex};
-use record_places::clear_numbers;
+use codeview::lent::Lent;
 use sheet::{Printed, print_over};
-use streams::places::{least, wide};
-use streams::refusal::StreamKind;
-use streams::stream::{Head, header_of};
-use wire::bytes::shorter;
+use streams::refusal::{Refusal, StreamKind};
+use streams::stream::{Stream, header_of};
 
 // How many records a stream has by its header, and no more than a fourth of its bytes: a header that lies asks for no long buffer.
 fn record_count(s: &[u8]) -> u32
     ensures { result ≡ record_count s.now }
 {
-    match header_of(s) {
-        Head::Good(first, end, stop) => least(end - first, (stop / 4) as u32),
-        Head::Broken => 0,
-    }
+    let Some(Stream { first, end, stop }) = header_of(s) else {
+        return 0;
+    };
+    (end - first).min((stop / 4) as u32)
 }
 
 fn places_for(stride: u32, n: u32) -> usize
@@ -38,7 +36,8 @@ fn places_for(stride: u32, n: u32) -> usize
     if stride == 0 {
         return 0;
     }
-    (wide(n) + (wide(stride) - 1)) / wide(stride)
+    // Kept: by div_ceil, which rounds by a remainder, the definition was not found.
+    (n as usize + (stride as usize - 1)) / stride as usize
 }
 
 // How many of so many places the types get: what they need; and half, where the stride is one that suits.
@@ -48,7 +47,7 @@ fn split_for(stride: u32, needed: usize, room: usize) -> usize
     if stride == 0 {
         return room / 2;
     }
-    shorter(needed, room)
+    needed.min(room)
 }
 
 // The places of the types stand at the end of the buffer, and before them the numbers and the places of the ids.
@@ -69,16 +68,26 @@ pub fn check_streams(types: &[u8], ids: &[u8], stride: u32, checked: &mut [u32])
 {
     let needed = places_for(stride, record_count(types));
     let all = 19 + (needed + places_for(stride, record_count(ids)));
-    if checked.len() < 19 {
-        clear_numbers(checked);
-        return all;
-    }
-    if 0xffff_ffff < checked.len() {
-        clear_numbers(checked);
+    if checked.len() < 19 || 0xffff_ffff < checked.len() {
+        checked.fill(0);
         return all;
     }
     keep_in(types, ids, stride, needed, checked);
     all
+}
+
+// The streams of a call, with what the buffer keeps of their check.
+fn kept_lent<'a>(types: &'a [u8], ids: &'a [u8], checked: &'a [u32]) -> Lent<'a>
+    ensures types { result.types.now ≡ types.now }
+    ensures ids { result.ids.now ≡ ids.now }
+    ensures kept { near_in result ≡ kept_in checked.now }
+{
+    Lent {
+        types,
+        ids,
+        bounds: numbers_of(checked),
+        places: places_behind(checked),
+    }
 }
 
 // The text of a function, by its name and type.
@@ -90,20 +99,12 @@ pub fn format_function(
     size: u32,
     name: &[u8],
     index: TypeIndex,
-) -> Answer
+) -> Result<usize, Refusal>
     ensures result_after { given out.new result ≡ laid out.old (function_over types.now (kept_in checked.now) flags size name.now index.0 (length out.old)) }
     ensures result_after_2 { KeptOf Types types.now (kept_in checked.now) → given out.new result ≡ laid out.old (function_outcome flags size types.now name.now index.0 (length out.old)) }
 {
-    function_over(
-        types,
-        numbers_of(checked),
-        places_behind(checked),
-        out,
-        flags,
-        size,
-        name,
-        index,
-    )
+    let lent = kept_lent(types, b"", checked);
+    function_over(&lent, out, flags, size, name, index)
 }
 
 // The text of an id.
@@ -115,20 +116,12 @@ pub fn format_id(
     flags: u32,
     size: u32,
     index: IdIndex,
-) -> Answer
+) -> Result<usize, Refusal>
     ensures result_after { given out.new result ≡ laid out.old (id_over types.now ids.now (kept_in checked.now) flags size index.0 (length out.old)) }
     ensures result_after_2 { Kept types.now ids.now (kept_in checked.now) → given out.new result ≡ laid out.old (id_outcome flags size types.now ids.now index.0 (length out.old)) }
 {
-    id_over(
-        types,
-        ids,
-        numbers_of(checked),
-        places_behind(checked),
-        out,
-        flags,
-        size,
-        index,
-    )
+    let lent = kept_lent(types, ids, checked);
+    id_over(&lent, out, flags, size, index)
 }
 
 // The text of a type.
@@ -139,33 +132,26 @@ pub fn format_type(
     flags: u32,
     size: u32,
     index: TypeIndex,
-) -> Answer
+) -> Result<usize, Refusal>
     ensures result_after { given out.new result ≡ laid out.old (type_over types.now (kept_in checked.now) flags size index.0 (length out.old)) }
     ensures result_after_2 { KeptOf Types types.now (kept_in checked.now) → given out.new result ≡ laid out.old (type_outcome flags size types.now index.0 (length out.old)) }
 {
-    type_over(
-        types,
-        numbers_of(checked),
-        places_behind(checked),
-        out,
-        flags,
-        size,
-        index,
-    )
+    let lent = kept_lent(types, b"", checked);
+    type_over(&lent, out, flags, size, index)
 }
 
 // The size of a type; this call takes no flags.
-pub fn get_type_size(types: &[u8], checked: &[u32], size: u32, index: TypeIndex) -> SizeAnswer
+pub fn get_type_size(
+    types: &[u8],
+    checked: &[u32],
+    size: u32,
+    index: TypeIndex,
+) -> Result<u64, Refusal>
     ensures result_value { of_size_answer result ≡ of_size (size_over types.now (kept_in checked.now) size index.0) }
     ensures result_value_2 { KeptOf Types types.now (kept_in checked.now) → of_size_answer result ≡ of_size (size_outcome size types.now index.0) }
 {
-    size_over(
-        types,
-        numbers_of(checked),
-        places_behind(checked),
-        size,
-        index,
-    )
+    let lent = kept_lent(types, b"", checked);
+    size_over(&lent, size, index)
 }
 
 // The texts of ids, one after another, with four numbers for each.
@@ -183,12 +169,9 @@ pub fn format_ids(
     ensures result_after_2 { Kept types.now ids.now (kept_in checked.now) → batched out.new answers.new result ≡ laid_batch out.old answers.old (id_batch flags size types.now ids.now (length out.old) (length answers.old) indexes.now) }
     ensures goes_on { GoesOn (length answers.old) indexes.now (batch_over Ids types.now ids.now (kept_in checked.now) flags size (length out.old) (length answers.old) indexes.now) }
 {
-    let numbers = numbers_of(checked);
-    let places = places_behind(checked);
     let ids_of = StreamKind::Ids;
-    texts_over(
-        ids_of, types, ids, numbers, places, out, flags, size, indexes, answers,
-    )
+    let lent = kept_lent(types, ids, checked);
+    texts_over(ids_of, &lent, out, flags, size, indexes, answers)
 }
 
 // The texts of types.
@@ -205,12 +188,9 @@ pub fn format_types(
     ensures result_after_2 { KeptOf Types types.now (kept_in checked.now) → batched out.new answers.new result ≡ laid_batch out.old answers.old (type_batch flags size types.now (length out.old) (length answers.old) indexes.now) }
     ensures goes_on { GoesOn (length answers.old) indexes.now (batch_over Types types.now [] (kept_in checked.now) flags size (length out.old) (length answers.old) indexes.now) }
 {
-    let numbers = numbers_of(checked);
-    let places = places_behind(checked);
     let types_of = StreamKind::Types;
-    texts_over(
-        types_of, types, b"", numbers, places, out, flags, size, indexes, answers,
-    )
+    let lent = kept_lent(types, b"", checked);
+    texts_over(types_of, &lent, out, flags, size, indexes, answers)
 }
 
 // A sheet's lines behind the first `skip` of them, as far as whole lines fit.
@@ -226,7 +206,6 @@ pub fn print_sheet(
     ensures result_after_2 { Kept types.now ids.now (kept_in checked.now) → shown out.new result ≡ laid_out out.old (sheet_fit types.now ids.now sheet.now skip (length out.old)) }
     ensures continues_over { ContinuesOver types.now ids.now (kept_in checked.now) sheet.now skip (length out.old) }
 {
-    let numbers = numbers_of(checked);
-    let places = places_behind(checked);
-    print_over(types, ids, numbers, places, sheet, out, skip)
+    let lent = kept_lent(types, ids, checked);
+    print_over(&lent, sheet, out, skip)
 }

@@ -9,11 +9,11 @@ ghost use Rattle.checked_calls.specs.Checks.{of_size_answer};
 ghost use Rattle.batch.specs.Batch.{batched, laid_batch, GoesOn, type_batch, id_batch};
 
 use batch::texts_over;
-use checked_calls::answer::Answer;
-use checked_calls::calls::{SizeAnswer, function_over, id_over, size_over, type_over};
+use checked_calls::calls::{function_over, id_over, size_over, type_over};
 use checked_calls::kept::{keep_both, keep_types};
 use codeview::index::{IdIndex, TypeIndex};
-use streams::refusal::StreamKind;
+use codeview::lent::Lent;
+use streams::refusal::{Refusal, StreamKind};
 
 pub mod checked;
 pub mod placed;
@@ -26,13 +26,19 @@ pub fn format_function(
     size: u32,
     name: &[u8],
     index: TypeIndex,
-) -> Answer
+) -> Result<usize, Refusal>
     ensures result_after { given out.new result ≡ laid out.old (function_outcome flags size types.now name.now index.0 (length out.old)) }
     ensures function_demand { FunctionDemand flags size types.now name.now index.0 }
 {
     let mut places = [0u32; 256];
     let bounds = keep_types(types, &mut places);
-    function_over(types, &bounds, &places, out, flags, size, name, index)
+    let lent = Lent {
+        types,
+        ids: b"",
+        bounds: &bounds,
+        places: &places,
+    };
+    function_over(&lent, out, flags, size, name, index)
 }
 
 // The text of an id.
@@ -43,34 +49,58 @@ pub fn format_id(
     flags: u32,
     size: u32,
     index: IdIndex,
-) -> Answer
+) -> Result<usize, Refusal>
     ensures result_after { given out.new result ≡ laid out.old (id_outcome flags size types.now ids.now index.0 (length out.old)) }
     ensures id_demand { IdDemand flags size types.now ids.now index.0 }
 {
     let mut kept = [0u32; 275];
     let mut places = [0u32; 256];
     keep_both(types, ids, &mut kept, &mut places);
-    id_over(types, ids, &kept, &places, out, flags, size, index)
+    let lent = Lent {
+        types,
+        ids,
+        bounds: &kept,
+        places: &places,
+    };
+    id_over(&lent, out, flags, size, index)
 }
 
 // The text of a type.
-pub fn format_type(types: &[u8], out: &mut [u8], flags: u32, size: u32, index: TypeIndex) -> Answer
+pub fn format_type(
+    types: &[u8],
+    out: &mut [u8],
+    flags: u32,
+    size: u32,
+    index: TypeIndex,
+) -> Result<usize, Refusal>
     ensures result_after { given out.new result ≡ laid out.old (type_outcome flags size types.now index.0 (length out.old)) }
     ensures type_demand { TypeDemand flags size types.now index.0 }
 {
     let mut places = [0u32; 256];
     let bounds = keep_types(types, &mut places);
-    type_over(types, &bounds, &places, out, flags, size, index)
+    let lent = Lent {
+        types,
+        ids: b"",
+        bounds: &bounds,
+        places: &places,
+    };
+    type_over(&lent, out, flags, size, index)
 }
 
 // The size of a type; this call takes no flags.
-pub fn get_type_size(types: &[u8], size: u32, index: TypeIndex) -> SizeAnswer
+pub fn get_type_size(types: &[u8], size: u32, index: TypeIndex) -> Result<u64, Refusal>
     ensures result_value { of_size_answer result ≡ of_size (size_outcome size types.now index.0) }
     ensures size_finished { SizeFinished size types.now index.0 }
 {
     let mut places = [0u32; 256];
     let bounds = keep_types(types, &mut places);
-    size_over(types, &bounds, &places, size, index)
+    let lent = Lent {
+        types,
+        ids: b"",
+        bounds: &bounds,
+        places: &places,
+    };
+    size_over(&lent, size, index)
 }
 
 // The texts of ids, one after another: how many of the indexes are done. Four numbers are noted for each: refusal or 0, detail or 0, where its text starts,
@@ -92,9 +122,13 @@ pub fn format_ids(
     let mut places = [0u32; 4096];
     keep_both(types, ids, &mut kept, &mut places);
     let ids_of = StreamKind::Ids;
-    texts_over(
-        ids_of, types, ids, &kept, &places, out, flags, size, indexes, answers,
-    )
+    let lent = Lent {
+        types,
+        ids,
+        bounds: &kept,
+        places: &places,
+    };
+    texts_over(ids_of, &lent, out, flags, size, indexes, answers)
 }
 
 // The texts of types.
@@ -113,7 +147,11 @@ pub fn format_types(
     let mut places = [0u32; 4096];
     let bounds = keep_types(types, &mut places);
     let types_of = StreamKind::Types;
-    texts_over(
-        types_of, types, b"", &bounds, &places, out, flags, size, indexes, answers,
-    )
+    let lent = Lent {
+        types,
+        ids: b"",
+        bounds: &bounds,
+        places: &places,
+    };
+    texts_over(types_of, &lent, out, flags, size, indexes, answers)
 }

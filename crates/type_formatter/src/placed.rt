@@ -6,15 +6,16 @@ ghost use Rattle.rules.specs.Placed.{function_placed, FunctionPlacedDemand, id_p
 ghost use Rattle.checked_calls.specs.Answers.{given, laid};
 ghost use Rattle.checked_calls.specs.Checks.{of_size_answer};
 
-use checked_calls::answer::Answer;
 use checked_calls::calls::{
-    SizeAnswer, check_call, check_id_call, check_types, function_over, id_over, refuse_place,
-    refuse_size, size_over, type_over,
+    check_call, check_id_call, check_types, function_over, id_over, refuse_place, refuse_size,
+    size_over, type_over,
 };
 use checked_calls::kept::{keep_lent, keep_lent_ids};
 use codeview::index::{IdIndex, TypeIndex};
+use codeview::lent::Lent;
 use context::flags::TypeFormatterFlags;
-use record_places::{PlacesCheck, check_placed};
+use record_places::check_placed;
+use streams::refusal::Refusal;
 
 // The text of a function, by its name and type.
 pub fn format_function(
@@ -25,19 +26,22 @@ pub fn format_function(
     size: u32,
     name: &[u8],
     index: TypeIndex,
-) -> Answer
+) -> Result<usize, Refusal>
     ensures result_after { given out.new result ≡ laid out.old (function_placed flags size types.now places.now name.now index.0 (length out.old)) }
     ensures function_placed_demand { FunctionPlacedDemand flags size types.now places.now name.now index.0 }
 {
     let c = check_placed(types, places);
     let check = c.check;
-    let lent = c.places;
     let bounds = keep_lent(check);
-    match lent {
-        PlacesCheck::Right => {
-            function_over(types, &bounds, places, out, flags, size, name, index)
-        }
-        PlacesCheck::Wrong(k) => refuse_place(out, check_call(&bounds, flags, size), k),
+    let lent = Lent {
+        types,
+        ids: b"",
+        bounds: &bounds,
+        places,
+    };
+    match c.places {
+        Ok(()) => function_over(&lent, out, flags, size, name, index),
+        Err(k) => refuse_place(out, check_call(&bounds, flags, size), k),
     }
 }
 
@@ -50,18 +54,23 @@ pub fn format_id(
     flags: u32,
     size: u32,
     index: IdIndex,
-) -> Answer
+) -> Result<usize, Refusal>
     ensures result_after { given out.new result ≡ laid out.old (id_placed flags size types.now ids.now places.now index.0 (length out.old)) }
     ensures id_placed_demand { IdPlacedDemand flags size types.now ids.now places.now index.0 }
 {
     let c = check_placed(types, places);
     let check = c.check;
-    let lent = c.places;
     let mut kept = [0u32; 275];
     keep_lent_ids(check, ids, &mut kept);
-    match lent {
-        PlacesCheck::Right => id_over(types, ids, &kept, places, out, flags, size, index),
-        PlacesCheck::Wrong(k) => refuse_place(out, check_id_call(&kept, flags, size), k),
+    let lent = Lent {
+        types,
+        ids,
+        bounds: &kept,
+        places,
+    };
+    match c.places {
+        Ok(()) => id_over(&lent, out, flags, size, index),
+        Err(k) => refuse_place(out, check_id_call(&kept, flags, size), k),
     }
 }
 
@@ -73,31 +82,46 @@ pub fn format_type(
     flags: u32,
     size: u32,
     index: TypeIndex,
-) -> Answer
+) -> Result<usize, Refusal>
     ensures result_after { given out.new result ≡ laid out.old (type_placed flags size types.now places.now index.0 (length out.old)) }
     ensures type_placed_demand { TypePlacedDemand flags size types.now places.now index.0 }
 {
     let c = check_placed(types, places);
     let check = c.check;
-    let lent = c.places;
     let bounds = keep_lent(check);
-    match lent {
-        PlacesCheck::Right => type_over(types, &bounds, places, out, flags, size, index),
-        PlacesCheck::Wrong(k) => refuse_place(out, check_call(&bounds, flags, size), k),
+    let lent = Lent {
+        types,
+        ids: b"",
+        bounds: &bounds,
+        places,
+    };
+    match c.places {
+        Ok(()) => type_over(&lent, out, flags, size, index),
+        Err(k) => refuse_place(out, check_call(&bounds, flags, size), k),
     }
 }
 
 // The size of a type; this call takes no flags.
-pub fn get_type_size(types: &[u8], places: &[u32], size: u32, index: TypeIndex) -> SizeAnswer
+pub fn get_type_size(
+    types: &[u8],
+    places: &[u32],
+    size: u32,
+    index: TypeIndex,
+) -> Result<u64, Refusal>
     ensures result_value { of_size_answer result ≡ of_size (size_placed size types.now places.now index.0) }
     ensures size_as_plain { SizeAsPlain size types.now places.now index.0 }
 {
     let c = check_placed(types, places);
     let check = c.check;
-    let lent = c.places;
     let bounds = keep_lent(check);
-    match lent {
-        PlacesCheck::Right => size_over(types, &bounds, places, size, index),
-        PlacesCheck::Wrong(k) => refuse_size(check_types(&bounds, TypeFormatterFlags(0), size), k),
+    let lent = Lent {
+        types,
+        ids: b"",
+        bounds: &bounds,
+        places,
+    };
+    match c.places {
+        Ok(()) => size_over(&lent, size, index),
+        Err(k) => refuse_size(check_types(&bounds, TypeFormatterFlags(0), size), k),
     }
 }

@@ -1,228 +1,87 @@
--- The laws of the functions here: leads, parts and runs. Assumes nothing.
-use Prim.Native.Nat.{ℕ, zero, suc, ◌+◌, ◌-◌, ◌<◌, ◌≤◌}
-use mathlib.Core.Path.{◌≡◌, refl, ap, sym, ◌∙◌}
-use mathlib.Core.Bool.{Bool, true, false, ◌&&◌, ◌||◌}
-use mathlib.Core.List.{List, [], ◌∷◌, ◌++◌, append_assoc}
-use mathlib.Core.Option.{Option, none, some}
-use lib.Dec.{eqb, leb, ltb}
-use lib.ListN.{length, take, drop, get_or, length-drop, drop_of_length-le}
+-- The laws of the functions here: ranges, parts and runs. Assumes nothing.
+use Rattle.std.proofs.Common.{◌≡◌, refl, ◌∙◌, ap, ℕ, zero, suc, ◌+◌, ◌-◌, ◌*◌, ◌/◌, ◌<◌, ◌≤◌, Bool, true, false, ◌&&◌, ◌||◌, List, [], ◌∷◌, ◌++◌, Some, None, Ok, Err, cond, length, take, drop, get_or, eqb, ltb, leb, add-one, zero-add, append_assoc, arith}
+use Rattle.std.proofs.lemmas.List.{take_rest}
+use Rattle.std.proofs.Math.Bool.{and-false}
+use Rattle.std.specs.Prelude.{Option, Result, MatchResult}
+use Rattle.std.specs.List.{list_all, fold, prefix_len, zip}
+use Rattle.std.specs.Simd.{first_chunks}
+use lib.ListN.{length-drop, drop_of_length-le}
 use lib.Seq.{drop-cons, take-add, drop-drop}
-use native.Mathlib.Omega.{arith}
-use native.Mathlib.Decide.{dec_lt}
-use native.Mathlib.Nat.{add-zero}
-use native.Mathlib.Numerals.{add-one}
-use borrow.Author.Tests.{lt-ltb, le-leb, lt-leb, ltb-true, ltb-false}
+use borrow.Author.Tests.{le-leb, lt-leb, ltb-true}
 use Rattle.wire.specs.Field.{pick}
-use Rattle.utf8.specs.Utf8.{Range, ◌‥◌, is_in, table, behind_in, behind, fitting, is_whole, reach, replacement, shown}
-use Rattle.utf8.specs.Parts.{lead_of, ranges, behind_lead, part_at, run_past, run, ascii_at}
-use Rattle.utf8.specs.declared.Lead.{Lead}
-use Rattle.utf8.specs.declared.Part.{Part}
-use Rattle.utf8.proofs.Shown.{never, both, Begins, ascii, leads, stray, begins, shown-whole, shown-broken}
+use Rattle.utf8.specs.declared.Range.{Range}
+use Rattle.utf8.specs.Utf8.{◌‥◌, Row, is_in, behind_in, behind, fitting, is_whole, reach, replacement, shown}
+use Rattle.utf8.specs.Parts.{part_len, part_at, run_past, run}
+use Rattle.utf8.proofs.Shown.{never, both, behind-low, shown-whole, shown-broken}
 
--- A byte and a range.
-below : (a b c : ℕ) → b < a → is_in (a ‥ c) b ≡ false
-unfolding is_in
-below a b c h = rw (lt-leb a b h) refl
+-- The rows of the table. A byte from l to h is in no row that ends below l or begins above h.
+abbrev outside : ℕ → ℕ → Row → Bool
+outside l h r = ltb r.first.high l || ltb h r.first.low
 
-above : (a b c : ℕ) → c < b → is_in (a ‥ c) b ≡ false
+not-in : (l h b : ℕ) → l ≤ b → b ≤ h → (r : Row) → outside l h r ≡ true → is_in r.first b ≡ false
 unfolding is_in
-above a b c h = rw (lt-leb b c h) (by (leb a b))
+not-in l h b m n r e = by (ltb r.first.high l) (ltb h r.first.low) refl refl e
   where
-    by : (t : Bool) → (t && false) ≡ false
-    by true = refl
-    by false = refl
-
-inside : (a b c : ℕ) → a ≤ b → b ≤ c → is_in (a ‥ c) b ≡ true
-unfolding is_in
-inside a b c h k = rw (le-leb a b h, le-leb b c k) refl
-
--- The rows of the table, by the first byte.
-module _ (b : ℕ) where
-  pub lead-tail : 128 ≤ b → b < 0xC2 → behind_lead (lead_of 0 0 0) ≡ behind b
-  unfolding behind_lead behind behind_in table
-  lead-tail h k =
-      rw (
-        above 0 b 0x7F (omega arith),
-        below 0xC2 b 0xDF k,
-        below 0xE0 b 0xE0 (omega arith),
-        below 0xE1 b 0xEC (omega arith),
-        below 0xED b 0xED (omega arith),
-        below 0xEE b 0xEF (omega arith),
-        below 0xF0 b 0xF0 (omega arith),
-        below 0xF1 b 0xF3 (omega arith),
-        below 0xF4 b 0xF4 (omega arith),
-      )
-      refl
-
-  pub lead-two : 0xC2 ≤ b → b < 0xE0 → behind_lead (lead_of 0x80 0xBF 1) ≡ behind b
-  unfolding behind_lead behind behind_in table ranges
-  lead-two h k = rw (above 0 b 0x7F (omega arith), inside 0xC2 b 0xDF h (omega arith)) refl
-
-  pub lead-e0 : b ≡ 0xE0 → behind_lead (lead_of 0xA0 0xBF 2) ≡ behind b
-  unfolding behind_lead behind behind_in table ranges is_in
-  lead-e0 e = rw e refl
-
-  pub lead-ed : b ≡ 0xED → behind_lead (lead_of 0x80 0x9F 2) ≡ behind b
-  unfolding behind_lead behind behind_in table ranges is_in
-  lead-ed e = rw e refl
-
-  pub lead-three : 0xE0 ≤ b → (b ≡ 0xE0 → ⊥) → (b ≡ 0xED → ⊥) → b < 0xF0 → behind_lead (lead_of 0x80 0xBF 2) ≡ behind b
-  unfolding behind_lead behind behind_in table ranges
-  lead-three h n m k = by (dec_lt b 0xED)
-    where
-      by : Dec (b < 0xED) → behind_lead (lead_of 0x80 0xBF 2) ≡ behind b
-      by (yes l) = rw (above 0 b 0x7F (omega arith), above 0xC2 b 0xDF (omega arith), above 0xE0 b 0xE0 (omega arith), inside 0xE1 b 0xEC (omega arith) (omega arith)) refl
-      by (no l) =
-          rw (
-            above 0 b 0x7F (omega arith),
-            above 0xC2 b 0xDF (omega arith),
-            above 0xE0 b 0xE0 (omega arith),
-            above 0xE1 b 0xEC (omega arith),
-            above 0xED b 0xED (omega arith),
-            inside 0xEE b 0xEF (omega arith) (omega arith),
-          )
-          refl
-
-  pub lead-f0 : b ≡ 0xF0 → behind_lead (lead_of 0x90 0xBF 3) ≡ behind b
-  unfolding behind_lead behind behind_in table ranges is_in
-  lead-f0 e = rw e refl
-
-  pub lead-four : 0xF0 ≤ b → (b ≡ 0xF0 → ⊥) → b < 0xF4 → behind_lead (lead_of 0x80 0xBF 3) ≡ behind b
-  unfolding behind_lead behind behind_in table ranges
-  lead-four h n k =
-      rw (
-        above 0 b 0x7F (omega arith),
-        above 0xC2 b 0xDF (omega arith),
-        above 0xE0 b 0xE0 (omega arith),
-        above 0xE1 b 0xEC (omega arith),
-        above 0xED b 0xED (omega arith),
-        above 0xEE b 0xEF (omega arith),
-        above 0xF0 b 0xF0 (omega arith),
-        inside 0xF1 b 0xF3 (omega arith) (omega arith),
-      )
-      refl
-
-  pub lead-f4 : b ≡ 0xF4 → behind_lead (lead_of 0x80 0x8F 3) ≡ behind b
-  unfolding behind_lead behind behind_in table ranges is_in
-  lead-f4 e = rw e refl
-
-  pub lead-none : 0xF4 ≤ b → (b ≡ 0xF4 → ⊥) → behind_lead (lead_of 0 0 0) ≡ behind b
-  unfolding behind_lead behind behind_in table
-  lead-none h n =
-      rw (
-        above 0 b 0x7F (omega arith),
-        above 0xC2 b 0xDF (omega arith),
-        above 0xE0 b 0xE0 (omega arith),
-        above 0xE1 b 0xEC (omega arith),
-        above 0xED b 0xED (omega arith),
-        above 0xEE b 0xEF (omega arith),
-        above 0xF0 b 0xF0 (omega arith),
-        above 0xF1 b 0xF3 (omega arith),
-        above 0xF4 b 0xF4 (omega arith),
-      )
-      refl
-
--- The bytes that a lead asks for, one after another.
-pub fit-end : (low high n : ℕ) (s : List ℕ) (at : ℕ) → length s ≤ at → fitting (ranges low high n) (drop at s) ≡ 0
-unfolding fitting ranges
-fit-end low high zero s at h = refl
-fit-end low high (suc n) s at h = rw (drop_of_length-le s h) refl
-
-pub fit_none : (low high : ℕ) (s : List ℕ) → fitting (ranges low high 0) s ≡ 0
-unfolding fitting ranges
-fit_none low high s = refl
-
-pub fit-out : (low high n : ℕ) (s : List ℕ) (at : ℕ) → at < length s → (ltb (get_or s at 0) low || ltb high (get_or s at 0)) ≡ true → fitting (ranges low high (suc n)) (drop at s) ≡ 0
-unfolding fitting ranges is_in
-fit-out low high n s at h e = rw (drop-cons s at 0 h) (by (ltb b low) (ltb high b) refl refl e)
-  where
-    b : ℕ
-    b = get_or s at 0
-
-    by : (t u : Bool) → ltb b low ≡ t → ltb high b ≡ u → (t || u) ≡ true → pick (leb low b && leb b high) (suc (fitting (ranges 0x80 0xBF n) (drop (suc at) s))) 0 ≡ 0
-    by true u f g e = rw (lt-leb low b (ltb-true _ _ f)) refl
-    by false true f g e = rw (le-leb low b (ltb-false _ _ f), lt-leb b high (ltb-true _ _ g)) refl
+    by : (t u : Bool) → ltb r.first.high l ≡ t → ltb h r.first.low ≡ u → (t || u) ≡ true → (leb r.first.low b && leb b r.first.high) ≡ false
+    by true u f g e = let k = ltb-true _ _ f in let o : r.first.high < b = omega arith in rw (lt-leb b r.first.high o, and-false) refl
+    by false true f g e = let k = ltb-true _ _ g in let o : b < r.first.low = omega arith in rw (lt-leb r.first.low b o) refl
     by false false f g e = never e
 
-pub fit-more : (low high n : ℕ) (s : List ℕ) (at : ℕ) → at < length s → (ltb (get_or s at 0) low || ltb high (get_or s at 0)) ≡ false
-    → fitting (ranges low high (suc n)) (drop at s) ≡ suc (fitting (ranges 0x80 0xBF n) (drop (suc at) s))
-unfolding fitting ranges is_in
-fit-more low high n s at h e = rw (drop-cons s at 0 h) (by (ltb b low) (ltb high b) refl refl e)
+pub no_row : (l h b : ℕ) → l ≤ b → b ≤ h → (rows : List Row) → list_all (outside l h) rows ≡ true → None ≡ behind_in rows b
+unfolding behind_in
+no_row l h b m n [] e = refl
+no_row l h b m n (r ∷ rows) e = let k = both (outside l h r) (list_all (outside l h) rows) e in rw (not-in l h b m n r k.0) (no_row l h b m n rows k.1)
+
+-- One in the first range of a row is in that row, where the rows before it have none of that range.
+abbrev row_at : List Row → ℕ → Row
+row_at rows i = get_or rows i (record { first = 1 ‥ 0; behind = [] })
+
+pub of_row : (rows : List Row) (i b : ℕ) → list_all (outside (row_at rows i).first.low (row_at rows i).first.high) (take i rows) ≡ true → (row_at rows i).first.low ≤ b → b ≤ (row_at rows i).first.high
+    → Some (row_at rows i).behind ≡ behind_in rows b
+unfolding behind_in is_in
+of_row [] i b e m n = absurd (omega arith)
+of_row (r ∷ rows) zero b e m n = rw (le-leb r.first.low b m, le-leb b r.first.high n) refl
+of_row (r ∷ rows) (suc i) b e m n =
+    let q = row_at rows i in
+    let k = both (outside q.first.low q.first.high r) (list_all (outside q.first.low q.first.high) (take i rows)) e in
+    rw (not-in q.first.low q.first.high b m n r k.0) (of_row rows i b k.1 m n)
+
+-- Bytes and ranges, taken side by side as long as each byte stands in its range.
+pub fit-prefix : (rs : List Range) (s : List ℕ) → prefix_len (λ p. leb p.0.low p.1 && leb p.1 p.0.high) (zip rs s) ≡ fitting rs s
+unfolding fitting is_in
+fit-prefix [] s = refl
+fit-prefix (r ∷ rs) [] = refl
+fit-prefix (r ∷ rs) (b ∷ s) = by (leb r.low b && leb b r.high) (fit-prefix rs s)
   where
-    b : ℕ
-    b = get_or s at 0
+    by : (t : Bool) → prefix_len (λ p. leb p.0.low p.1 && leb p.1 p.0.high) (zip rs s) ≡ fitting rs s
+        → cond t (1 + prefix_len (λ p. leb p.0.low p.1 && leb p.1 p.0.high) (zip rs s)) 0 ≡ pick t (suc (fitting rs s)) 0
+    by true h = omega (arith, h)
+    by false h = refl
 
-    by : (t u : Bool) → ltb b low ≡ t → ltb high b ≡ u → (t || u) ≡ false
-        → pick (leb low b && leb b high) (suc (fitting (ranges 0x80 0xBF n) (drop (suc at) s))) 0 ≡ suc (fitting (ranges 0x80 0xBF n) (drop (suc at) s))
-    by true u f g e = absurd (let z : ◌≡◌ {A = ℕ} 0 1 = cc in omega arith)
-    by false true f g e = absurd (let z : ◌≡◌ {A = ℕ} 0 1 = cc in omega arith)
-    by false false f g e = rw (le-leb low b (ltb-false _ _ f), le-leb b high (ltb-false _ _ g)) refl
+-- The part at a place: of an ASCII byte, of one that begins no sequence, and of any other.
+module _ (s : List ℕ) (at : ℕ) where
+  pub part-ascii : get_or s at 0 < 128 → part_at s at ≡ Ok 1
+  unfolding is_whole reach fitting
+  part-ascii l = rw (behind-low (get_or s at 0) l) refl
 
--- A turn of counting them: n of them fit, and the next is asked for by the range from low to high.
-abbrev pub Counted : List ℕ → ℕ → ℕ → ℕ → ℕ → ℕ → ℕ → ℕ → Type 0
-Counted s at low₀ high₀ count low high n = n + fitting (ranges low high (count - n)) (drop (at + n) s) ≡ fitting (ranges low₀ high₀ count) (drop at s)
+  pub part-none : behind (get_or s at 0) ≡ None → part_at s at ≡ Err 1
+  unfolding is_whole reach
+  part-none e = rw e refl
 
-module _ (s : List ℕ) (at low₀ high₀ count : ℕ) where
-  abbrev all : ℕ
-  all = fitting (ranges low₀ high₀ count) (drop at s)
+  pub part-some : (rs : List Range) (n : ℕ) → behind (get_or s at 0) ≡ Some rs → n ≡ fitting rs (take (length s - (at + 1)) (drop (at + 1) s)) → part_at s at ≡ pick (eqb n (length rs)) (Ok (n + 1)) (Err (n + 1))
+  unfolding is_whole reach
+  part-some rs n e f = let g : n ≡ fitting rs (drop (suc at) s) = rw (take_rest, add-one at) at f in rw (e, ← g, add-one n) refl
 
-  pub count-start : Counted s at low₀ high₀ count low₀ high₀ 0
-  count-start = let z : count - 0 ≡ count = omega arith in rw (add-zero at, z) (omega arith)
-
-  module _ (low high n : ℕ) (h : Counted s at low₀ high₀ count low high n) where
-    pub count-end : length s - at ≤ n → n ≡ all
-    count-end k = rw (← h) (rw (fit-end low high (count - n) s (at + n) (omega arith)) (omega arith))
-
-    pub count-all : count ≤ n → n ≡ all
-    count-all k = let z : count - n ≡ 0 = omega arith in rw (← h) (rw (z, fit_none low high (drop (at + n) s)) (omega arith))
-
-    module _ (k : n < count) (m : at + n < length s) where
-      pub count-out : (ltb (get_or s (at + n) 0) low || ltb high (get_or s (at + n) 0)) ≡ true → n ≡ all
-      count-out e =
-          let z : count - n ≡ suc (count - (n + 1)) = omega arith in
-          rw (← h) (rw (z, fit-out low high (count - (n + 1)) s (at + n) m e) (omega arith))
-
-      pub count-more : (ltb (get_or s (at + n) 0) low || ltb high (get_or s (at + n) 0)) ≡ false → Counted s at low₀ high₀ count 0x80 0xBF (n + 1)
-      count-more e =
-          let z : count - n ≡ suc (count - (n + 1)) = omega arith in
-          let y : at + (n + 1) ≡ suc (at + n) = omega arith in
-          rw (← h) (rw (z, fit-more low high (count - (n + 1)) s (at + n) m e, y) (omega arith))
-
--- The part at a place.
-ranges-length : (low high n : ℕ) → length (ranges low high n) ≡ n
-unfolding ranges
-ranges-length low high zero = refl
-ranges-length low high (suc n) = ap suc (ranges-length 0x80 0xBF n)
-
-abbrev part : ℕ → Bool → Part
-part len whole = record { len = len; whole = whole }
-
--- What is said of an ASCII byte.
-ascii-behind : (b : ℕ) → b < 128 → behind b ≡ some []
-ascii-behind b l = by (begins b)
+-- What is taken of a part, whole or not, is its length.
+pub part-length : (s : List ℕ) (at n : ℕ) (r : Result ℕ ℕ) → r ≡ part_at s at → MatchResult r (λ m. n ≡ m) (λ m. n ≡ m) → n ≡ part_len s at
+part-length s at n r e h = by (is_whole (behind (get_or s at 0)) (drop (suc at) s)) (rw e at h)
   where
-    by : Begins b → behind b ≡ some []
-    by (ascii k e) = e
-    by (leads k rs e h) = absurd (omega arith)
-    by (stray k e) = absurd (omega arith)
-
-pub part-ascii : (s : List ℕ) (at : ℕ) → get_or s at 0 < 128 → part 1 true ≡ part_at s at
-unfolding is_whole reach fitting
-part-ascii s at h = rw (ascii-behind (get_or s at 0) h) refl
-
-pub part-lead : (s : List ℕ) (at n : ℕ) (l : Lead) → behind_lead l ≡ behind (get_or s at 0) → n ≡ fitting (ranges l.low l.high l.count) (drop (at + 1) s)
-    → part (n + 1) (ltb 0 l.count && eqb n l.count) ≡ part_at s at
-unfolding behind_lead reach is_whole
-part-lead s at n l e f = rw (← e, add-one n) (by l.count f)
-  where
-    by : (k : ℕ) → n ≡ fitting (ranges l.low l.high k) (drop (at + 1) s)
-        → part (suc n) (ltb 0 k && eqb n k)
-        ≡ part (suc (reach (pick (ltb 0 k) (some (ranges l.low l.high k)) none) (drop (suc at) s))) (is_whole (pick (ltb 0 k) (some (ranges l.low l.high k)) none) (drop (suc at) s))
-    by zero g = rw (g, fit_none l.low l.high (drop (at + 1) s)) refl
-    by (suc k) g = rw (lt-ltb 0 (suc k) (omega arith), g, add-one at, ranges-length l.low l.high (suc k)) refl
+    by : (t : Bool) → MatchResult (pick t (Ok (part_len s at)) (Err (part_len s at))) (λ m. n ≡ m) (λ m. n ≡ m) → n ≡ part_len s at
+    by true h = h
+    by false h = h
 
 -- Runs: past a part that is a sequence, up to one that is not, and to the end.
-fitting-le : (rs : List Range) (s : List ℕ) → fitting rs s ≤ length s
+pub fitting-le : (rs : List Range) (s : List ℕ) → fitting rs s ≤ length s
 unfolding fitting
 fitting-le [] s = omega arith
 fitting-le (r ∷ rs) [] = omega arith
@@ -232,13 +91,10 @@ fitting-le (r ∷ rs) (b ∷ bs) = by (is_in r b) (fitting-le rs bs)
     by true h = omega arith
     by false h = omega arith
 
-pub fit-le : (rs : List Range) (s : List ℕ) (at n : ℕ) → n ≡ fitting rs (drop at s) → n ≤ length s - at
-fit-le rs s at n e = let k : fitting rs (drop at s) ≤ length (drop at s) = fitting-le rs (drop at s) in omega (arith, e, length-drop at s)
-
 reach-le : (o : Option (List Range)) (s : List ℕ) → reach o s ≤ length s
 unfolding reach
-reach-le none s = omega arith
-reach-le (some rs) s = fitting-le rs s
+reach-le None s = omega arith
+reach-le (Some rs) s = fitting-le rs s
 
 run_past_lem : (n : ℕ) (s : List ℕ) → n ≤ length s → run_past n s ≡ n + run (drop n s)
 unfolding run_past run
@@ -258,57 +114,75 @@ run-broken : (b : ℕ) (bs : List ℕ) → is_whole (behind b) bs ≡ false → 
 unfolding run run_past
 run-broken b bs e = rw e refl
 
-run_none : (s : List ℕ) (at : ℕ) → length s ≤ at → run (drop at s) ≡ 0
+pub run_none : (s : List ℕ) (at : ℕ) → length s ≤ at → run (drop at s) ≡ 0
 run_none s at h = rw (drop_of_length-le s h) run-nil
 
-module _ (s : List ℕ) (at : ℕ) (h : at < length s) where
-  run-stop : (part_at s at).whole ≡ false → run (drop at s) ≡ 0
-  run-stop e = rw (drop-cons s at 0 h) (run-broken (get_or s at 0) (drop (suc at) s) e)
+-- ASCII bytes are sequences, one by one.
+run-one : (b : ℕ) (bs : List ℕ) → b < 128 → run (b ∷ bs) ≡ suc (run bs)
+unfolding is_whole reach fitting
+run-one b bs l = let e = behind-low b l in run-whole b bs (rw e refl) ∙ rw (e, zero-add) refl
 
-  run_step : (part_at s at).whole ≡ true → run (drop at s) ≡ (part_at s at).len + run (drop (at + (part_at s at).len) s)
-  run_step e =
+run-ascii : (n : ℕ) (s : List ℕ) → n ≤ length s → list_all (λ b. ltb b 128) (take n s) ≡ true → run s ≡ n + run (drop n s)
+run-ascii zero s h e = rw zero-add refl
+run-ascii (suc n) [] h e = absurd (omega arith)
+run-ascii (suc n) (b ∷ s) h e =
+    let k = both (ltb b 128) (list_all (λ b. ltb b 128) (take n s)) e in
+    omega (arith, run-one b s (ltb-true _ _ k.0), run-ascii n s (omega arith) k.1)
+
+-- All tests at once are each of them.
+pub all-at-once : (s : List ℕ) (t : Bool) → fold (λ t b. t && ltb b 128) t s ≡ (t && list_all (λ b. ltb b 128) s)
+all-at-once [] true = refl
+all-at-once [] false = refl
+all-at-once (b ∷ s) true = all-at-once s (ltb b 128)
+all-at-once (b ∷ s) false = all-at-once s false
+
+-- A run goes past eight bytes at a time as long as all of them are ASCII.
+pub run-eights : (k : ℕ) (s : List ℕ) → 8 * k ≤ length s
+    → let n = prefix_len (list_all (λ b. ltb b 128)) (first_chunks 8 k s) in run s ≡ 8 * n + run (drop (8 * n) s)
+run-eights zero s h = rw zero-add refl
+run-eights (suc k) s h = by (list_all (λ b. ltb b 128) (take 8 s)) refl (run-eights k (drop 8 s) (omega (arith, length-drop 8 s)))
+  where
+    n : ℕ
+    n = prefix_len (list_all (λ b. ltb b 128)) (first_chunks 8 k (drop 8 s))
+
+    by : (t : Bool) → list_all (λ b. ltb b 128) (take 8 s) ≡ t → run (drop 8 s) ≡ 8 * n + run (drop (8 * n) (drop 8 s)) → run s ≡ 8 * cond t (1 + n) 0 + run (drop (8 * cond t (1 + n) 0) s)
+    by true e g =
+        let f : run s ≡ 8 + run (drop 8 s) = run-ascii 8 s (omega arith) e in
+        let y : 8 * (1 + n) ≡ 8 + 8 * n = omega arith in
+        rw (y, ← drop-drop (8 * n) 8 s) (omega (arith, f, g))
+    by false e g = rw zero-add refl
+
+pub eights_skipped : (s : List ℕ) (from n : ℕ) (rest : List ℕ) (eights : List (List ℕ)) → rest ≡ drop from s → eights ≡ first_chunks 8 (length rest / 8) rest → n ≡ prefix_len (list_all (λ b. ltb b 128)) eights
+    → (from ≤ from + 8 * n) × (from + run (drop from s) ≡ (from + 8 * n) + run (drop (from + 8 * n) s))
+eights_skipped s from n rest eights e f g =
+    let h : n ≡ prefix_len (list_all (λ b. ltb b 128)) (first_chunks 8 (length rest / 8) rest) = rw f at g in
+    let k : run rest ≡ 8 * n + run (drop (8 * n) rest) = rw (← h) at (run-eights (length rest / 8) rest (omega arith)) in
+    (omega arith, rw (← drop-drop (8 * n) from s, ← e) (omega (arith, k)))
+
+-- A part lies inside; a run goes on behind one that is a sequence, and ends before another.
+module _ (s : List ℕ) (at : ℕ) (h : at < length s) where
+  pub part-inside : at + part_len s at ≤ length s
+  part-inside = omega (arith, reach-le (behind (get_or s at 0)) (drop (suc at) s), length-drop (suc at) s)
+
+  run-whole-at : is_whole (behind (get_or s at 0)) (drop (suc at) s) ≡ true → run (drop at s) ≡ part_len s at + run (drop (at + part_len s at) s)
+  run-whole-at e =
       let n = reach (behind (get_or s at 0)) (drop (suc at) s) in
       let y : at + suc n ≡ suc at + n = omega arith in
       rw (drop-cons s at 0 h, run-whole (get_or s at 0) (drop (suc at) s) e, drop-drop n (suc at) s, y) (omega arith)
 
-  run-ascii : get_or s at 0 < 128 → run (drop at s) ≡ 1 + run (drop (at + 1) s)
-  run-ascii l =
-      let e : part 1 true ≡ part_at s at = part-ascii s at l in
-      let f : 1 ≡ (part_at s at).len = ap (λ (p : Part). p.len) e in
-      let g : true ≡ (part_at s at).whole = ap (λ (p : Part). p.whole) e in
-      rw f (run_step (sym g))
+  pub run-past_part : (n : ℕ) → Ok n ≡ part_at s at → (at + n ≤ length s) × (run (drop at s) ≡ n + run (drop (at + n) s))
+  run-past_part n f = by (is_whole (behind (get_or s at 0)) (drop (suc at) s)) refl f
+    where
+      by : (t : Bool) → is_whole (behind (get_or s at 0)) (drop (suc at) s) ≡ t → Ok n ≡ pick t (Ok (part_len s at)) (Err (part_len s at)) → (at + n ≤ length s) × (run (drop at s) ≡ n + run (drop (at + n) s))
+      by true e f = let k : part_len s at ≡ n = cc in rw (← k) (part-inside, run-whole-at e)
+      by false e f = cc
 
-pub run-eight : (n : ℕ) (s : List ℕ) (at : ℕ) → at + n ≤ length s → ascii_at n s at ≡ true → at + run (drop at s) ≡ (at + n) + run (drop (at + n) s)
-unfolding ascii_at
-run-eight zero s at h e = rw add-zero
-run-eight (suc n) s at h e =
-    let k = both (ascii_at n s at) (ltb (get_or s (at + n) 0) 0x80) e in
-    let y : at + suc n ≡ at + n + 1 = omega arith in
-    run-eight n s at (omega arith) k.0 ∙ rw (run-ascii s (at + n) (omega arith) (ltb-true _ _ k.1), y) (omega arith)
-
--- A part lies inside. Runs that end alike: one from here on, and the one that was asked for.
-pub part-inside : (s : List ℕ) (at : ℕ) (r : Part) → r ≡ part_at s at → at < length s → (0 < r.len) × (at + r.len ≤ length s)
-part-inside s at r e h =
-    let f : r.len ≡ (part_at s at).len = ap (λ (p : Part). p.len) e in
-    let k = reach-le (behind (get_or s at 0)) (drop (suc at) s) in
-    let l : length (drop (suc at) s) ≡ length s - suc at = length-drop (suc at) s in
-    (omega (arith, f), omega (arith, f, k, l))
-
-module _ (s : List ℕ) (from at : ℕ) (h : from + run (drop from s) ≡ at + run (drop at s)) where
-  pub run-over : length s ≤ at → at ≡ from + run (drop from s)
-  run-over l = omega (arith, h, run_none s at l)
-
-  module _ (r : Part) (e : r ≡ part_at s at) (l : at < length s) where
-    pub run-stopped : r.whole ≡ false → at ≡ from + run (drop from s)
-    run-stopped f =
-        let g : (part_at s at).whole ≡ false = sym (ap (λ (p : Part). p.whole) e) ∙ f in
-        omega (arith, h, run-stop s at l g)
-
-    pub run-stepped : r.whole ≡ true → from + run (drop from s) ≡ (at + r.len) + run (drop (at + r.len) s)
-    run-stepped f =
-        let g : (part_at s at).whole ≡ true = sym (ap (λ (p : Part). p.whole) e) ∙ f in
-        let k : r.len ≡ (part_at s at).len = ap (λ (p : Part). p.len) e in
-        h ∙ rw (run_step s at l g, k) (omega arith)
+  pub run-at_part : (n : ℕ) → Err n ≡ part_at s at → run (drop at s) ≡ 0
+  run-at_part n f = by (is_whole (behind (get_or s at 0)) (drop (suc at) s)) refl f
+    where
+      by : (t : Bool) → is_whole (behind (get_or s at 0)) (drop (suc at) s) ≡ t → Err n ≡ pick t (Ok (part_len s at)) (Err (part_len s at)) → run (drop at s) ≡ 0
+      by true e f = cc
+      by false e f = rw (drop-cons s at 0 h) (run-broken (get_or s at 0) (drop (suc at) s) e)
 
 -- What the end of a run tells: the bytes up to it are shown as they are, and behind it stands no sequence.
 abbrev Stops : List ℕ → Type 0
@@ -361,7 +235,7 @@ module _ (s : List ℕ) (at end : ℕ) (e : end ≡ at + run (drop at s)) where
   pub run-kept : shown (drop at s) ≡ take (end - at) (drop at s) ++ shown (drop end s)
   run-kept = let k : end - at ≡ run (drop at s) = omega (arith, e) in rw (k, e, ← drop-drop (run (drop at s)) at s) tells.kept
 
-  pub run-behind : end < length s → shown (drop end s) ≡ replacement ++ shown (drop (end + (part_at s end).len) s)
+  pub run-behind : end < length s → shown (drop end s) ≡ replacement ++ shown (drop (end + part_len s end) s)
   run-behind h =
       let n = reach (behind (get_or s end 0)) (drop (suc end) s) in
       let y : end + suc n ≡ suc end + n = omega arith in

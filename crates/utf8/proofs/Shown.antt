@@ -5,23 +5,24 @@ use mathlib.Core.Logic.{◌↔◌}
 use mathlib.Core.Path.{◌≡◌, refl, ap, sym, ◌∙◌}
 use mathlib.Core.Bool.{Bool, true, false, ◌&&◌}
 use mathlib.Core.List.{List, [], ◌∷◌, ◌++◌, append_assoc}
-use mathlib.Core.Option.{Option, none, some}
+use Rattle.std.specs.Prelude.{Option, Some, None}
 use lib.Dec.{leb, ltb}
 use lib.ListN.{length, take, drop, take-append-drop}
 use lib.Seq.{take-append_seam}
 use native.Mathlib.Omega.{arith}
 use native.Mathlib.Decide.{dec_lt}
 use borrow.Author.Tests.{eq-eqb, eqb-true, le-ltb, le-leb, lt-leb, ltb-true, leb-true}
+use Rattle.std.proofs.lemmas.Bool.{and_parts}
 use Rattle.wire.specs.Field.{pick}
-use Rattle.utf8.specs.Utf8.{Range, is_in, Row, table, behind_in, behind, each, Sequence, sequence, WellFormed, empty, further, fitting, is_whole, reach, replacement, shown_part, shown_past, shown}
+use Rattle.utf8.specs.declared.Range.{Range}
+use Rattle.utf8.specs.Utf8.{is_in, Row, table, behind_in, behind, each, Sequence, sequence, WellFormed, empty, further, fitting, is_whole, reach, replacement, shown_part, shown_past, shown}
 
 -- What cannot be said of a test; and two tests that both hold.
 pub never : {A : Type 0} → false ≡ true → A
-never e = absurd (let z : ◌≡◌ {A = ℕ} 0 1 = cc in omega arith)
+never e = cc
 
 pub both : (t u : Bool) → (t && u) ≡ true → (t ≡ true) × (u ≡ true)
-both true u h = (refl, h)
-both false u h = never h
+both = and_parts
 
 -- Bytes behind the first n are shown as they are by themselves.
 pub past : (n : ℕ) (s : List ℕ) → shown_past n s ≡ shown (drop n s)
@@ -61,7 +62,7 @@ unfolding shown_past shown
 past_all [] s = refl
 past_all (b ∷ bs) s = past_all bs s
 
-own-part : (b : ℕ) (bs s : List ℕ) (rs : List Range) → behind b ≡ some rs → fitting rs (bs ++ s) ≡ length bs → length bs ≡ length rs → shown (b ∷ (bs ++ s)) ≡ b ∷ (bs ++ shown s)
+own-part : (b : ℕ) (bs s : List ℕ) (rs : List Range) → behind b ≡ Some rs → fitting rs (bs ++ s) ≡ length bs → length bs ≡ length rs → shown (b ∷ (bs ++ s)) ≡ b ∷ (bs ++ shown s)
 unfolding shown shown_past shown_part is_whole reach
 own-part b bs s rs e f g = rw (e, f, g, eq-eqb (length rs) (length rs) refl, ← g, take-append_seam bs s, past_all bs s) refl
 
@@ -93,8 +94,8 @@ part-sequence b bs = by (behind b) refl (is_whole (behind b) bs) refl
   where
     by : (o : Option (List Range)) → behind b ≡ o → (t : Bool) → is_whole o bs ≡ t → Sequence (pick t (b ∷ take (reach o bs) bs) replacement)
     by o e false h = sequence-replacement
-    by none e true h = never h
-    by (some rs) e true h = sequence rs e (each-taken rs bs (eqb-true _ _ h))
+    by None e true h = never h
+    by (Some rs) e true h = sequence rs e (each-taken rs bs (eqb-true _ _ h))
 
 past-well : (n : ℕ) (s : List ℕ) → WellFormed (shown_past n s)
 unfolding shown_past
@@ -113,12 +114,12 @@ unfolding shown shown_past shown_part
 shown-some b bs = by (is_whole (behind b) bs)
   where
     by : (t : Bool) → pick t (b ∷ take (reach (behind b) bs) bs) replacement ++ shown_past (reach (behind b) bs) bs ≡ [] → ⊥
-    by true e = let z : ◌≡◌ {A = ℕ} 0 1 = cc in omega arith
-    by false e = let z : ◌≡◌ {A = ℕ} 0 1 = cc in omega arith
+    by true e = cc
+    by false e = cc
 
 pub shown-empty : (s : List ℕ) → (shown s ≡ []) ↔ (s ≡ [])
 shown-empty [] = (λ e. refl, λ e. shown-nil)
-shown-empty (b ∷ bs) = (λ e. absurd (shown-some b bs e), λ e. absurd (let z : ◌≡◌ {A = ℕ} 0 1 = cc in omega arith))
+shown-empty (b ∷ bs) = (λ e. absurd (shown-some b bs e), λ e. cc)
 
 -- How a byte begins a part: it is ASCII and alone; it leads a sequence, in which no byte is ASCII; or it begins none.
 unfoldable pub all_high : List Range → Bool
@@ -130,22 +131,22 @@ high_rows [] = true
 high_rows (r ∷ rs) = all_high r.behind && high_rows rs
 
 pub data Begins (b : ℕ) : Type 0 where
-  ascii : b < 128 → behind b ≡ some [] → Begins b
-  leads : 128 ≤ b → (rs : List Range) → behind b ≡ some rs → all_high rs ≡ true → Begins b
-  stray : 128 ≤ b → behind b ≡ none → Begins b
+  ascii : b < 128 → behind b ≡ Some [] → Begins b
+  leads : 128 ≤ b → (rs : List Range) → behind b ≡ Some rs → all_high rs ≡ true → Begins b
+  stray : 128 ≤ b → behind b ≡ None → Begins b
 
 begins-in : (b : ℕ) → 128 ≤ b → (rows : List Row) → high_rows rows ≡ true → behind_in rows b ≡ behind b → Begins b
 unfolding behind_in high_rows
 begins-in b l [] h e = stray l (sym e)
 begins-in b l (r ∷ rs) h e = by (is_in r.first b) (all_high r.behind) refl h e (begins-in b l rs)
   where
-    by : (t u : Bool) → all_high r.behind ≡ u → (u && high_rows rs) ≡ true → pick t (some r.behind) (behind_in rs b) ≡ behind b
+    by : (t u : Bool) → all_high r.behind ≡ u → (u && high_rows rs) ≡ true → pick t (Some r.behind) (behind_in rs b) ≡ behind b
         → (high_rows rs ≡ true → behind_in rs b ≡ behind b → Begins b) → Begins b
     by true true f h e k = leads l r.behind (sym e) f
     by false true f h e k = k h e
     by t false f h e k = never h
 
-behind-low : (b : ℕ) → b < 128 → behind b ≡ some []
+pub behind-low : (b : ℕ) → b < 128 → behind b ≡ Some []
 unfolding behind table behind_in is_in
 behind-low b l = rw (le-leb 0 b (omega arith), le-leb b 0x7F (omega arith)) refl
 
@@ -191,7 +192,7 @@ pub data PartOf (b : ℕ) (bs : List ℕ) : Type 0 where
   one : b < 128 → shown_part b bs ≡ b ∷ [] → reach (behind b) bs ≡ 0 → PartOf b bs
   other : (c : ℕ) (x : List ℕ) → shown_part b bs ≡ c ∷ x → high_bytes (c ∷ x) ≡ true → high_bytes (b ∷ take (reach (behind b) bs) bs) ≡ true → PartOf b bs
 
-part-alone : (b : ℕ) (bs : List ℕ) → behind b ≡ some [] → (shown_part b bs ≡ b ∷ []) × (reach (behind b) bs ≡ 0)
+part-alone : (b : ℕ) (bs : List ℕ) → behind b ≡ Some [] → (shown_part b bs ≡ b ∷ []) × (reach (behind b) bs ≡ 0)
 unfolding shown_part is_whole reach fitting
 part-alone b bs e = (rw e refl, rw e refl)
 

@@ -1,30 +1,14 @@
 -- What the functions here give, where the standard has no name for it.
-use Rattle.std.specs.Prelude.{ℕ, zero, suc, ◌+◌, Bool, true, ◌&&◌, List, [], ◌∷◌, ltb, get_or, drop}
-use Rattle.std.proofs.Math.Option.{Option, none, some}
+use Rattle.std.specs.Prelude.{ℕ, zero, suc, List, [], ◌∷◌, Result, Ok, Err, get_or, drop}
 use Rattle.wire.specs.Field.{pick}
-use Rattle.utf8.specs.Utf8.{Range, ◌‥◌, behind, is_whole, reach}
-use Rattle.utf8.specs.declared.Lead.{Lead}
-use Rattle.utf8.specs.declared.Part.{Part}
+use Rattle.utf8.specs.Utf8.{behind, is_whole, reach}
 
--- So many ranges: the first as given, 80..BF for each other.
-unfoldable pub ranges : ℕ → ℕ → ℕ → List Range
-ranges low high zero = []
-ranges low high (suc n) = low ‥ high ∷ ranges 0x80 0xBF n
+-- The part at a place, by its length: a well-formed sequence, or what is ill-formed there.
+abbrev pub part_len : List ℕ → ℕ → ℕ
+part_len s at = suc (reach (behind (get_or s at 0)) (drop (suc at) s))
 
-abbrev pub lead_of : ℕ → ℕ → ℕ → Lead
-lead_of low high count = record { low = low; high = high; count = count }
-
--- What a lead says of the bytes behind it.
-unfoldable pub behind_lead : Lead → Option (List Range)
-behind_lead l = pick (ltb 0 l.count) (some (ranges l.low l.high l.count)) none
-
--- The part at a place: its length, and whether it is a well-formed sequence.
-abbrev pub part_at : List ℕ → ℕ → Part
-part_at s at =
-    record {
-      len = suc (reach (behind (get_or s at 0)) (drop (suc at) s));
-      whole = is_whole (behind (get_or s at 0)) (drop (suc at) s);
-    }
+abbrev pub part_at : List ℕ → ℕ → Result ℕ ℕ
+part_at s at = pick (is_whole (behind (get_or s at 0)) (drop (suc at) s)) (Ok (part_len s at)) (Err (part_len s at))
 
 -- How long the longest well-formed beginning is; the first n bytes are of a sequence that is in it.
 unfoldable pub run_past : ℕ → List ℕ → ℕ
@@ -34,8 +18,3 @@ run_past (suc n) (b ∷ bs) = suc (run_past n bs)
 
 unfoldable pub run : List ℕ → ℕ
 run s = run_past 0 s
-
--- Whether so many bytes from a place on are ASCII.
-unfoldable pub ascii_at : ℕ → List ℕ → ℕ → Bool
-ascii_at zero s at = true
-ascii_at (suc n) s at = ascii_at n s at && ltb (get_or s (at + n) 0) 0x80

@@ -1,14 +1,10 @@
 -- Well-formed UTF-8, and what is shown of bytes that are not (document 02, Note 2; the Unicode Standard, chapter 3: table 3-7, and "U+FFFD substitution of
 -- maximal subparts").
-use Rattle.std.specs.Prelude.{ℕ, zero, suc, ◌≡◌, Bool, true, false, ◌&&◌, List, [], ◌∷◌, ◌++◌, eqb, leb, length, take}
-use Rattle.std.proofs.Math.Option.{Option, none, some}
+use Rattle.std.specs.Prelude.{ℕ, zero, suc, ◌≡◌, Bool, true, false, ◌&&◌, List, [], ◌∷◌, ◌++◌, Option, Some, None, eqb, leb, length, take}
 use Rattle.wire.specs.Field.{pick}
+use Rattle.utf8.specs.declared.Range.{Range}
 
 -- A range of bytes, both ends in it.
-pub record Range : Type 0 where
-  pub low : ℕ
-  pub high : ℕ
-
 infix 90 ◌‥◌
 abbrev pub ◌‥◌ : ℕ → ℕ → Range
 low ‥ high = record { low = low; high = high }
@@ -40,8 +36,8 @@ table =
 
 -- What may stand behind a first byte, by its row; none for a byte that begins no sequence.
 unfoldable pub behind_in : List Row → ℕ → Option (List Range)
-behind_in [] b = none
-behind_in (r ∷ rs) b = pick (is_in r.first b) (some r.behind) (behind_in rs b)
+behind_in [] b = None
+behind_in (r ∷ rs) b = pick (is_in r.first b) (Some r.behind) (behind_in rs b)
 
 unfoldable pub behind : ℕ → Option (List Range)
 behind b = behind_in table b
@@ -55,7 +51,7 @@ each (r ∷ rs) (b ∷ bs) = is_in r b && each rs bs
 
 -- A well-formed sequence is one of the table; well-formed bytes are such sequences, one after another.
 pub data Sequence : List ℕ → Type 0 where
-  sequence : {b : ℕ} {bs : List ℕ} (rs : List Range) → behind b ≡ some rs → each rs bs ≡ true → Sequence (b ∷ bs)
+  sequence : {b : ℕ} {bs : List ℕ} (rs : List Range) → behind b ≡ Some rs → each rs bs ≡ true → Sequence (b ∷ bs)
 
 pub data WellFormed : List ℕ → Type 0 where
   empty : WellFormed []
@@ -70,12 +66,12 @@ fitting (r ∷ rs) (b ∷ bs) = pick (is_in r b) (suc (fitting rs bs)) 0
 -- The part that a first byte begins, by what may stand behind that byte and by the bytes that do. Whether it is a well-formed sequence; and how many bytes
 -- behind the first are in it. One that is none is a maximal subpart: the longest beginning of a well-formed sequence, or the one byte that begins none.
 unfoldable pub is_whole : Option (List Range) → List ℕ → Bool
-is_whole none bs = false
-is_whole (some rs) bs = eqb (fitting rs bs) (length rs)
+is_whole None bs = false
+is_whole (Some rs) bs = eqb (fitting rs bs) (length rs)
 
 unfoldable pub reach : Option (List Range) → List ℕ → ℕ
-reach none bs = 0
-reach (some rs) bs = fitting rs bs
+reach None bs = 0
+reach (Some rs) bs = fitting rs bs
 
 -- "The bytes EF BF BD": U+FFFD.
 abbrev pub replacement : List ℕ

@@ -1,141 +1,90 @@
 // UTF-8: how far bytes are well-formed, and the part at a place, by table 3-7 of the Unicode Standard.
 #![tactic(auto)]
 
-ghost use Rattle.std.specs.Prelude.{◌≡◌, ◌+◌, ◌≤◌, ◌<◌, length, drop};
+ghost use Rattle.std.specs.Prelude.{◌≡◌, ◌+◌, ◌≤◌, ◌<◌, length, drop, nat_lt};
+ghost use Rattle.std.specs.Option.{option_copied};
+ghost use Rattle.std.specs.List.{list_all};
 ghost use Rattle.utf8.specs.Utf8.{behind, fitting};
-ghost use Rattle.utf8.specs.Parts.{lead_of, ranges, behind_lead, part_at, run, ascii_at};
+ghost use Rattle.utf8.specs.Parts.{part_at, run};
 
-use wire::field::left;
-
-// What a byte says of those behind it: the range of the next one, and how many there are. None follow a byte that begins no sequence.
+// A range of bytes, both ends in it.
 #[derive(Clone, Copy)]
-pub struct Lead {
+pub struct Range {
     pub low: u8,
     pub high: u8,
-    pub count: usize,
 }
 
-// A part: its length, and whether it is a well-formed sequence.
-#[derive(Clone, Copy)]
-pub struct Part {
-    pub len: usize,
-    pub whole: bool,
-}
+// Where most bytes behind a first one lie.
+const TAIL: Range = Range {
+    low: 0x80,
+    high: 0xbf,
+};
 
-// A lead by its three numbers.
-fn asks(low: u8, high: u8, count: usize) -> Lead
-    ensures { result ≡ lead_of low high count }
-{
-    Lead { low, high, count }
-}
-
-// What a byte that is not ASCII says: after E0, ED, F0 and F4 the range of the next byte is narrower.
-fn lead_of(b: u8) -> Lead
+// What may stand behind a first byte that is not ASCII: after E0, ED, F0 and F4 the range of the next byte is narrower. None for a byte that begins no
+// sequence.
+#[rattlefmt::skip]
+fn ranges_behind(b: u8) -> Option<&'static [Range]>
     requires { 128 ≤ b }
-    ensures { behind_lead result ≡ behind b }
+    ensures { option_copied result ≡ behind b }
 {
-    if b < 0xc2 {
-        return asks(0, 0, 0);
+    match b {
+        0xc2..=0xdf => Some(&[TAIL]),
+        0xe0 => Some(&[Range { low: 0xa0, high: 0xbf }, TAIL]),
+        0xe1..=0xec => Some(&[TAIL, TAIL]),
+        0xed => Some(&[Range { low: 0x80, high: 0x9f }, TAIL]),
+        0xee..=0xef => Some(&[TAIL, TAIL]),
+        0xf0 => Some(&[Range { low: 0x90, high: 0xbf }, TAIL, TAIL]),
+        0xf1..=0xf3 => Some(&[TAIL, TAIL, TAIL]),
+        0xf4 => Some(&[Range { low: 0x80, high: 0x8f }, TAIL, TAIL]),
+        _ => None,
     }
-    if b < 0xe0 {
-        return asks(0x80, 0xbf, 1);
-    }
-    if b == 0xe0 {
-        return asks(0xa0, 0xbf, 2);
-    }
-    if b == 0xed {
-        return asks(0x80, 0x9f, 2);
-    }
-    if b < 0xf0 {
-        return asks(0x80, 0xbf, 2);
-    }
-    if b == 0xf0 {
-        return asks(0x90, 0xbf, 3);
-    }
-    if b < 0xf4 {
-        return asks(0x80, 0xbf, 3);
-    }
-    if b == 0xf4 {
-        return asks(0x80, 0x8f, 3);
-    }
-    asks(0, 0, 0)
 }
 
-// How many bytes from a place on are those that a lead asks for.
-fn following(s: &[u8], at: usize, l: Lead) -> usize
-    requires { at ≤ length s.now }
-    ensures { result ≡ fitting (ranges l.low l.high l.count) (drop at s.now) }
+// How many bytes, one after another, stand each in its range.
+fn following(s: &[u8], ranges: &[Range]) -> usize
+    ensures { result ≡ fitting ranges.now s.now }
 {
-    let count = l.count;
-    let end = s.len() - at;
-    let mut low = l.low;
-    let mut high = l.high;
-    let mut n = 0;
-    while n < count {
-        if end <= n {
-            return n;
-        }
-        let b = s[at + n];
-        if (b < low) | (high < b) {
-            return n;
-        }
-        low = 0x80;
-        high = 0xbf;
-        n += 1;
-    }
-    n
+    ranges
+        .iter()
+        .zip(s)
+        .take_while(|(r, b)| r.low <= **b && **b <= r.high)
+        .count()
 }
 
-// The part at a place.
-pub fn part_at(s: &[u8], at: usize) -> Part
+// The part at a place: how long a well-formed sequence is, or else what is ill-formed there.
+pub fn part_at(s: &[u8], at: usize) -> Result<usize, usize>
     requires { at < length s.now }
     ensures { result ≡ part_at s.now at }
 {
     let b = s[at];
     if b < 0x80 {
-        return Part {
-            len: 1,
-            whole: true,
-        };
+        return Ok(1);
     }
-    let l = lead_of(b);
-    let count = l.count;
-    let n = following(s, at + 1, l);
-    Part {
-        len: n + 1,
-        whole: (0 < count) & (n == count),
+    let ranges = ranges_behind(b).ok_or(1usize)?;
+    let n = following(&s[at + 1..], ranges);
+    if n == ranges.len() {
+        Ok(n + 1)
+    } else {
+        Err(n + 1)
     }
 }
 
 // Whether eight bytes are ASCII. The tests are joined without a branch, so that they are made at once.
-fn ascii_in_eight(s: &[u8], at: usize) -> bool
-    requires { at + 8 ≤ length s.now }
-    ensures { result ≡ ascii_at 8 s.now at }
+fn is_ascii(eight: &[u8; 8]) -> bool
+    ensures { result ≡ list_all (λ b. nat_lt b 0x80) eight.now }
 {
-    (s[at] < 0x80)
-        & (s[at + 1] < 0x80)
-        & (s[at + 2] < 0x80)
-        & (s[at + 3] < 0x80)
-        & (s[at + 4] < 0x80)
-        & (s[at + 5] < 0x80)
-        & (s[at + 6] < 0x80)
-        & (s[at + 7] < 0x80)
+    eight.iter().fold(true, |ascii, b| ascii & (*b < 0x80))
 }
 
 // Past eight bytes at a time as long as all of them are ASCII.
 fn skip_ascii(s: &[u8], from: usize) -> usize
     ensures { (from ≤ result) × (from + run (drop from s.now) ≡ result + run (drop result s.now)) }
 {
-    // eight bytes stand at each place before this
-    let stop = left(s.len(), 7);
-    let mut at = from;
-    while at < stop {
-        if !ascii_in_eight(s, at) {
-            return at;
-        }
-        at += 8;
-    }
-    at
+    let Some(rest) = s.get(from..) else {
+        return from;
+    };
+    let (eights, _) = rest.as_chunks::<8>();
+    from + 8 * eights.iter().take_while(|eight| is_ascii(eight)).count()
 }
 
 // Where the well-formed bytes from a place on end.
@@ -143,12 +92,12 @@ pub fn run_end(s: &[u8], from: usize) -> usize
     ensures { result ≡ from + run (drop from s.now) }
 {
     let mut at = skip_ascii(s, from);
+    // Kept: each step is as long as its part, which no iterator of the library gives.
     while at < s.len() {
-        let p = part_at(s, at);
-        if !p.whole {
+        let Ok(len) = part_at(s, at) else {
             return at;
-        }
-        at += p.len;
+        };
+        at += len;
     }
     at
 }

@@ -1,6 +1,7 @@
 -- Numeric leaves: a number of CodeView that says its own width (cvinfo.h, LF_NUMERIC).
-use Rattle.std.specs.Prelude.{ℕ, zero, suc, ◌+◌, Bool, true, false, List, eqb, ltb}
+use Rattle.std.specs.Prelude.{ℕ, zero, suc, ◌+◌, Bool, true, false, List, eqb, ltb, Option, Some, None}
 use Rattle.wire.specs.Field.{pick, field}
+use Rattle.wire.specs.declared.leaf.Leaf.{Leaf}
 
 -- The width of the number after a lead that a size may have; 0 for any other ("a size number not below 0x8000 nor led by 0x8002, 0x8004, 0x800A").
 unfoldable pub size_width : ℕ → ℕ
@@ -31,3 +32,10 @@ leaf width_of s at read unread =
     field 2 s at
     (λ lead. pick (ltb lead 0x8000) (read lead 2 (at + 2)) (payload (width_of lead) s (at + 2) read unread))
     unread
+
+-- The same, as the code answers it.
+abbrev pub payload_answer : ℕ → List ℕ → ℕ → Option Leaf
+payload_answer width s at = payload width s at (λ v w n. Some (record { value = v; width = w; next = n })) None
+
+abbrev pub leaf_answer : (ℕ → ℕ) → List ℕ → ℕ → Option Leaf
+leaf_answer width_of s at = leaf width_of s at (λ v w n. Some (record { value = v; width = w; next = n })) None

@@ -1,8 +1,7 @@
 -- Zero-ended names, as places.
-use Rattle.std.specs.Prelude.{ℕ, zero, suc, ◌+◌, ◌-◌, Bool, false, ◌||◌, List, length, get_or, eqb, ltb}
+use Rattle.std.specs.Prelude.{ℕ, zero, suc, ◌+◌, ◌-◌, Bool, false, ◌||◌, List, length, get_or, eqb, ltb, Option, Some, None}
 use Rattle.wire.specs.Field.{pick}
-use Rattle.wire.specs.declared.name.NameRead.{NameRead}
-use Rattle.wire.specs.declared.name.NameRead.TheVariants.{Ended, Unended}
+use Rattle.wire.specs.declared.name.Name.{Name}
 
 -- The place of the first zero among so many bytes from a place on, or the place behind them.
 unfoldable pub zero_from : ℕ → List ℕ → ℕ → ℕ
@@ -23,5 +22,5 @@ unfoldable pub name : {A : Type 0} → List ℕ → ℕ → (ℕ → A) → A �
 name s at ended unended = pick (ltb (name_end s at) (length s)) (ended (name_end s at - at)) unended
 
 -- The same, as the code answers it.
-abbrev pub name_answer : List ℕ → ℕ → NameRead
-name_answer s at = name s at (λ n. Ended (record { start = at; len = n })) Unended
+abbrev pub name_answer : List ℕ → ℕ → Option Name
+name_answer s at = name s at (λ n. Some (record { start = at; len = n })) None

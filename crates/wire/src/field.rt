@@ -1,101 +1,111 @@
-// Little-endian numbers at a place of a slice. A field that is not wholly inside the slice is answered as such.
-ghost use Rattle.std.specs.Prelude.{◌≡◌, ◌+◌, ◌-◌, ◌≤◌, ◌<◌, length};
-ghost use Rattle.wire.specs.Field.{number, field8, field16, field32, field64};
+// Little-endian numbers at a place of a slice. A field that is not wholly inside the slice is none.
+ghost use Rattle.std.specs.Prelude.{◌≡◌, ◌+◌, ◌≤◌, ◌<◌, ℕ, length};
+ghost use Rattle.std.proofs.Common.{rules};
+ghost use Rattle.wire.specs.Field.{number, field};
 
-#[derive(Clone, Copy)]
-pub enum Field8 {
-    Value(u8),
-    Outside,
+// A number that a field holds: how many bytes it has there, and which of its values a number of so many bytes is.
+pub trait Little: Copy + Into<u64> {
+    const WIDTH: usize;
+
+    ghost WIDTH: { ℕ };
+
+    ghost of: { ℕ → Self };
+
+    // The one at a place, where all its bytes are inside.
+    fn read(s: &[u8], at: usize) -> Self
+        requires { at + WIDTH ≤ length s.now }
+        ensures { result ≡ of (number WIDTH s.now at) };
+
+    // It has some bytes, and widens to the number that they make.
+    ghost some: { 0 < WIDTH };
+
+    ghost back: { (n m : ℕ) → Self.converts (of n) m → m ≡ n };
 }
 
-#[derive(Clone, Copy)]
-pub enum Field16 {
-    Value(u16),
-    Outside,
-}
+impl Little for u8 {
+    const WIDTH: usize = 1;
 
-#[derive(Clone, Copy)]
-pub enum Field32 {
-    Value(u32),
-    Outside,
-}
+    ghost WIDTH = { 1 };
 
-#[derive(Clone, Copy)]
-pub enum Field64 {
-    Value(u64),
-    Outside,
-}
+    ghost of = { λ n. n };
 
-// How many bytes stand from a place to the end.
-pub fn left(len: usize, at: usize) -> usize
-    ensures { result ≡ len - at }
-{
-    if at < len { len - at } else { 0 }
-}
+    ghost some = { Prim.search rules };
 
-fn wide(b: u8) -> u16
-    ensures { (result ≡ b) × (result < 256) }
-{
-    b as u16
-}
+    ghost back = { λ n m e. e };
 
-fn two(s: &[u8], at: usize) -> u16
-    requires { at + 2 ≤ length s.now }
-    ensures { result ≡ number 2 s.now at }
-{
-    wide(s[at]) + 256 * wide(s[at + 1])
-}
-
-fn four(s: &[u8], at: usize) -> u32
-    requires { at + 4 ≤ length s.now }
-    ensures { result ≡ number 4 s.now at }
-{
-    let low = two(s, at);
-    let high = two(s, at + 2);
-    (low as u32) + 0x1_0000 * (high as u32)
-}
-
-fn eight(s: &[u8], at: usize) -> u64
-    requires { at + 8 ≤ length s.now }
-    ensures { result ≡ number 8 s.now at }
-{
-    let low = four(s, at);
-    let high = four(s, at + 4);
-    (low as u64) + 0x1_0000_0000 * (high as u64)
-}
-
-pub fn u8_at(s: &[u8], at: usize) -> Field8
-    ensures { result ≡ field8 s.now at }
-{
-    if left(s.len(), at) < 1 {
-        return Field8::Outside;
+    #[tactic(auto, unfolding(crate::specs::Field::number))]
+    fn read(s: &[u8], at: usize) -> u8 {
+        u8::from_le_bytes([s[at]])
     }
-    Field8::Value(s[at])
 }
 
-pub fn u16_at(s: &[u8], at: usize) -> Field16
-    ensures { result ≡ field16 s.now at }
-{
-    if left(s.len(), at) < 2 {
-        return Field16::Outside;
+impl Little for u16 {
+    const WIDTH: usize = 2;
+
+    ghost WIDTH = { 2 };
+
+    ghost of = { λ n. n };
+
+    ghost some = { Prim.search rules };
+
+    ghost back = { λ n m e. e };
+
+    #[tactic(auto, unfolding(crate::specs::Field::number))]
+    fn read(s: &[u8], at: usize) -> u16 {
+        u16::from_le_bytes([s[at], s[at + 1]])
     }
-    Field16::Value(two(s, at))
 }
 
-pub fn u32_at(s: &[u8], at: usize) -> Field32
-    ensures { result ≡ field32 s.now at }
-{
-    if left(s.len(), at) < 4 {
-        return Field32::Outside;
+impl Little for u32 {
+    const WIDTH: usize = 4;
+
+    ghost WIDTH = { 4 };
+
+    ghost of = { λ n. n };
+
+    ghost some = { Prim.search rules };
+
+    ghost back = { λ n m e. e };
+
+    #[tactic(auto, unfolding(crate::specs::Field::number))]
+    fn read(s: &[u8], at: usize) -> u32 {
+        u32::from_le_bytes([s[at], s[at + 1], s[at + 2], s[at + 3]])
     }
-    Field32::Value(four(s, at))
 }
 
-pub fn u64_at(s: &[u8], at: usize) -> Field64
-    ensures { result ≡ field64 s.now at }
-{
-    if left(s.len(), at) < 8 {
-        return Field64::Outside;
+impl Little for u64 {
+    const WIDTH: usize = 8;
+
+    ghost WIDTH = { 8 };
+
+    ghost of = { λ n. n };
+
+    ghost some = { Prim.search rules };
+
+    ghost back = { λ n m e. e };
+
+    #[tactic(auto, unfolding(crate::specs::Field::number))]
+    fn read(s: &[u8], at: usize) -> u64 {
+        u64::from_le_bytes([
+            s[at],
+            s[at + 1],
+            s[at + 2],
+            s[at + 3],
+            s[at + 4],
+            s[at + 5],
+            s[at + 6],
+            s[at + 7],
+        ])
     }
-    Field64::Value(eight(s, at))
+}
+
+// The number at a place, where the whole field is inside.
+#[tactic(auto, unfolding(crate::specs::Field::field))]
+pub fn field_at<T: Little>(s: &[u8], at: usize) -> Option<T>
+    ensures { result ≡ field T.WIDTH s.now at (λ n. Some (T.of n)) None }
+{
+    if s.len().saturating_sub(at) < T::WIDTH {
+        return None;
+    }
+    Some(T::read(s, at))
 }

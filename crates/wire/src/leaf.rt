@@ -1,112 +1,70 @@
 // Numeric leaves: a number that says its own width.
 ghost use Rattle.std.specs.Prelude.{◌≡◌, ◌+◌, ◌<◌, ◌≤◌, length};
-ghost use Rattle.wire.specs.Leaf.{size_width, value_width, width_of, payload, leaf};
-ghost use Rattle.wire.specs.declared.leaf.Leaf.TheVariants.{Number, Unread};
+ghost use Rattle.wire.specs.Leaf.{size_width, value_width, width_of, payload_answer, leaf_answer};
 
-use crate::field::{Field8, Field16, Field32, Field64};
+use crate::field::{Little, field_at};
 
 // What is read at a leaf: the number, the width of its value and the place behind it.
-#[derive(Clone, Copy)]
-pub enum Leaf {
-    Number {
-        value: u64,
-        width: usize,
-        next: usize,
-    },
-    Unread,
+#[derive(Clone, Copy, Debug, PartialEq, Eq)]
+pub struct Leaf {
+    pub value: u64,
+    pub width: usize,
+    pub next: usize,
 }
 
-fn number8(s: &[u8], at: usize) -> Leaf
-    ensures { result ≡ payload 1 s.now at Number Unread }
+// The number of its width after a lead.
+#[tactic(auto, using(crate::proofs::Laws::payload_pick), unfolding(crate::specs::Field::field))]
+fn number<T: Little>(s: &[u8], at: usize) -> Option<Leaf>
+    ensures { result ≡ payload_answer T.WIDTH s.now at }
 {
-    let Field8::Value(value) = crate::field::u8_at(s, at) else {
-        return Leaf::Unread;
-    };
-    Leaf::Number {
-        value: value as u64,
-        width: 1,
-        next: at + 1,
-    }
-}
-
-fn number16(s: &[u8], at: usize) -> Leaf
-    ensures { result ≡ payload 2 s.now at Number Unread }
-{
-    let Field16::Value(value) = crate::field::u16_at(s, at) else {
-        return Leaf::Unread;
-    };
-    Leaf::Number {
-        value: value as u64,
-        width: 2,
-        next: at + 2,
-    }
-}
-
-fn number32(s: &[u8], at: usize) -> Leaf
-    ensures { result ≡ payload 4 s.now at Number Unread }
-{
-    let Field32::Value(value) = crate::field::u32_at(s, at) else {
-        return Leaf::Unread;
-    };
-    Leaf::Number {
-        value: value as u64,
-        width: 4,
-        next: at + 4,
-    }
-}
-
-fn number64(s: &[u8], at: usize) -> Leaf
-    ensures { result ≡ payload 8 s.now at Number Unread }
-{
-    let Field64::Value(value) = crate::field::u64_at(s, at) else {
-        return Leaf::Unread;
-    };
-    Leaf::Number {
-        value,
-        width: 8,
-        next: at + 8,
-    }
+    let n = field_at::<T>(s, at)?;
+    Some(Leaf {
+        value: n.into(),
+        width: T::WIDTH,
+        next: at + T::WIDTH,
+    })
 }
 
 // The number behind a lead of 0x8000 or more that a size may have.
-fn size_number(s: &[u8], at: usize, lead: u16) -> Leaf
-    ensures { result ≡ payload (size_width lead) s.now at Number Unread }
+#[tactic(auto, unfolding(crate::specs::Leaf::size_width, crate::specs::Leaf::payload))]
+fn size_number(s: &[u8], at: usize, lead: u16) -> Option<Leaf>
+    ensures { result ≡ payload_answer (size_width lead) s.now at }
 {
     match lead {
-        0x8002 => number16(s, at),
-        0x8004 => number32(s, at),
-        0x800A => number64(s, at),
-        _ => Leaf::Unread,
+        0x8002 => number::<u16>(s, at),
+        0x8004 => number::<u32>(s, at),
+        0x800A => number::<u64>(s, at),
+        _ => None,
     }
 }
 
 // The same for the value of an enumerate, which may be signed.
-fn value_number(s: &[u8], at: usize, lead: u16) -> Leaf
-    ensures { result ≡ payload (value_width lead) s.now at Number Unread }
+#[tactic(auto, unfolding(crate::specs::Leaf::value_width))]
+fn value_number(s: &[u8], at: usize, lead: u16) -> Option<Leaf>
+    ensures { result ≡ payload_answer (value_width lead) s.now at }
 {
     match lead {
-        0x8000 => number8(s, at),
-        0x8001 => number16(s, at),
-        0x8003 => number32(s, at),
-        0x8009 => number64(s, at),
+        0x8000 => number::<u8>(s, at),
+        0x8001 => number::<u16>(s, at),
+        0x8003 => number::<u32>(s, at),
+        0x8009 => number::<u64>(s, at),
         _ => size_number(s, at, lead),
     }
 }
 
 // The numeric leaf at a place: a size, or where `signed` says so the value of an enumerate, whose bits stand for a signed number.
-pub fn leaf_at(s: &[u8], at: usize, signed: bool) -> Leaf
-    ensures { result ≡ leaf (width_of signed) s.now at Number Unread }
+#[tactic(auto, unfolding(crate::specs::Field::field, crate::specs::Leaf::leaf, crate::specs::Leaf::width_of))]
+pub fn leaf_at(s: &[u8], at: usize, signed: bool) -> Option<Leaf>
+    ensures { result ≡ leaf_answer (width_of signed) s.now at }
 {
-    let Field16::Value(lead) = crate::field::u16_at(s, at) else {
-        return Leaf::Unread;
-    };
+    let lead = field_at::<u16>(s, at)?;
     let next = at + 2;
     if lead < 0x8000 {
-        return Leaf::Number {
-            value: lead as u64,
+        return Some(Leaf {
+            value: u64::from(lead),
             width: 2,
             next,
-        };
+        });
     }
     if signed {
         return value_number(s, next, lead);

@@ -1,14 +1,12 @@
 -- What calls tell a C program beside the buffer. The sheet call: 1 where lines are left, else 0; how many bytes and lines are printed.
-use Rattle.std.specs.Prelude.{ℕ, length}
+use Rattle.std.specs.Prelude.{ℕ, length, Result, Ok, Err}
 use Rattle.wire.specs.Field.{pick}
-use Rattle.record_places.specs.declared.PlacesAnswer.{PlacesAnswer}
-use Rattle.record_places.specs.declared.PlacesAnswer.TheVariants as places
 use Rattle.rules.specs.Call.{Report, refused_by, accepted}
 use Rattle.sheet.specs.Sheet.{Fit}
 use Rattle.sheet.specs.declared.Printed.{Printed}
 use Rattle.msf.specs.Damage.{number_of, place_of}
-use Rattle.msf.specs.declared.StreamRead.{StreamRead}
-use Rattle.msf.specs.declared.StreamRead.TheVariants.{Bytes, Refused}
+use Rattle.streams.specs.declared.refusal.Refusal.{Refusal}
+use Rattle.msf.specs.declared.damage.Damage.{Damage}
 
 pub record Counts : Type 0 where
   pub left : ℕ
@@ -34,11 +32,11 @@ pub record Told : Type 0 where
 abbrev pub told : ℕ → ℕ → ℕ → Told
 told n at len = record { number = n; place = at; len = len }
 
-unfoldable pub of_read : StreamRead → Told
-of_read (Bytes n) = told 0 0 n
-of_read (Refused d) = told (number_of d) (place_of d) 0
+unfoldable pub of_read : (Result ℕ Damage) → Told
+of_read (Ok n) = told 0 0 n
+of_read (Err d) = told (number_of d) (place_of d) 0
 
 -- The pass that fills places: the refusal's number, or 0; its detail, or 0; how many entries are filled, or 0 where it is refused.
-unfoldable pub of_pass : PlacesAnswer → Report
-of_pass (places.Filled n) = accepted n
-of_pass (places.Refused f) = refused_by f
+unfoldable pub of_pass : (Result ℕ Refusal) → Report
+of_pass (Ok n) = accepted n
+of_pass (Err f) = refused_by f

@@ -16,12 +16,12 @@ ghost use Rattle.sheet.specs.Printed.{laid_out, SheetContinues, ContinuesOver};
 ghost use Rattle.msf.specs.Contents.{stream_of, laid as laid_stream};
 ghost use Rattle.yokberd.specs.Report.{counts, of_printed, of_fit, told, of_read, of_pass};
 
-use checked_calls::answer::Answer;
-use checked_calls::calls::SizeAnswer;
 use codeview::index::{IdIndex, TypeIndex};
-use msf::{StreamRead, read_stream};
-use record_places::{PlacesAnswer, fill_places};
+use msf::damage::Damage;
+use msf::read_stream;
+use record_places::fill_places;
 use sheet::{Printed, print_sheet};
+use streams::refusal::Refusal;
 use type_formatter::checked::check_streams;
 use type_formatter::{
     checked, format_function, format_id, format_ids, format_type, format_types, get_type_size,
@@ -30,33 +30,38 @@ use type_formatter::{
 
 pub mod measure;
 
-fn report_text(a: Answer, detail: &mut u32, written: &mut usize) -> u32
-    ensures { report result detail.new written.new ≡ of_answer a }
+// What a call answers that counts: the bytes of a text, or the entries that were filled.
+#[tactic(auto, unfolding(checked_calls::specs::Answers::of_answer, crate::specs::Report::of_pass))]
+fn report_count(a: Result<usize, Refusal>, detail: &mut u32, count: &mut usize) -> u32
+    ensures text { report result detail.new count.new ≡ of_answer a }
+    ensures pass { report result detail.new count.new ≡ of_pass a }
 {
     match a {
-        Answer::Text(n) => {
+        Ok(n) => {
             *detail = 0;
-            *written = n;
+            *count = n;
             0
         }
-        Answer::Refused(f) => {
+        Err(f) => {
             *detail = f.detail();
-            *written = 0;
+            *count = 0;
             f.number()
         }
     }
 }
 
-fn report_size(a: SizeAnswer, detail: &mut u32, bytes: &mut u64) -> u32
+// Kept: a size is a u64 and a count a usize; one function over both needs a trait that says what number each is.
+#[tactic(auto, unfolding(checked_calls::specs::Checks::of_size_answer))]
+fn report_size(a: Result<u64, Refusal>, detail: &mut u32, bytes: &mut u64) -> u32
     ensures { report result detail.new bytes.new ≡ of_size_answer a }
 {
     match a {
-        SizeAnswer::Bytes(n) => {
+        Ok(n) => {
             *detail = 0;
             *bytes = n;
             0
         }
-        SizeAnswer::Refused(f) => {
+        Err(f) => {
             *detail = f.detail();
             *bytes = 0;
             f.number()
@@ -69,36 +74,20 @@ fn report_printed(p: Printed, bytes: &mut usize, lines: &mut usize) -> u32
 {
     *bytes = p.bytes;
     *lines = p.lines;
-    if p.more { 1 } else { 0 }
+    u32::from(p.more)
 }
 
-fn report_places(a: PlacesAnswer, detail: &mut u32, filled: &mut usize) -> u32
-    ensures { report result detail.new filled.new ≡ of_pass a }
-{
-    match a {
-        PlacesAnswer::Filled(n) => {
-            *detail = 0;
-            *filled = n;
-            0
-        }
-        PlacesAnswer::Refused(f) => {
-            *detail = f.detail();
-            *filled = 0;
-            f.number()
-        }
-    }
-}
-
-fn report_stream(a: StreamRead, at: &mut usize, len: &mut usize) -> u32
+#[tactic(auto, unfolding(crate::specs::Report::of_read))]
+fn report_stream(a: Result<usize, Damage>, at: &mut usize, len: &mut usize) -> u32
     ensures { told result at.new len.new ≡ of_read a }
 {
     match a {
-        StreamRead::Bytes(n) => {
+        Ok(n) => {
             *at = 0;
             *len = n;
             0
         }
-        StreamRead::Refused(d) => {
+        Err(d) => {
             *at = d.place();
             *len = 0;
             d.number()
@@ -121,7 +110,7 @@ pub fn yokberd_format_function(
     ensures function_demand { FunctionDemand flags size types.now name.now index }
 {
     let a = format_function(types, out, flags, size, name, TypeIndex(index));
-    report_text(a, detail, written)
+    report_count(a, detail, written)
 }
 
 // The text of an id.
@@ -139,7 +128,7 @@ pub fn yokberd_format_id(
     ensures id_demand { IdDemand flags size types.now ids.now index }
 {
     let a = format_id(types, ids, out, flags, size, IdIndex(index));
-    report_text(a, detail, written)
+    report_count(a, detail, written)
 }
 
 // The text of a type.
@@ -156,7 +145,7 @@ pub fn yokberd_format_type(
     ensures type_demand { TypeDemand flags size types.now index }
 {
     let a = format_type(types, out, flags, size, TypeIndex(index));
-    report_text(a, detail, written)
+    report_count(a, detail, written)
 }
 
 // The size of a type; this call takes no flags.
@@ -231,7 +220,7 @@ pub fn yokberd_checked_format_function(
     ensures written_after_2 { KeptOf Types types.now (kept_in checked.now) → left out.new (report result detail.new written.new) ≡ laid out.old (function_outcome flags size types.now name.now index (length out.old)) }
 {
     let a = checked::format_function(types, checked, out, flags, size, name, TypeIndex(index));
-    report_text(a, detail, written)
+    report_count(a, detail, written)
 }
 
 // The text of an id.
@@ -250,7 +239,7 @@ pub fn yokberd_checked_format_id(
     ensures written_after_2 { Kept types.now ids.now (kept_in checked.now) → left out.new (report result detail.new written.new) ≡ laid out.old (id_outcome flags size types.now ids.now index (length out.old)) }
 {
     let a = checked::format_id(types, ids, checked, out, flags, size, IdIndex(index));
-    report_text(a, detail, written)
+    report_count(a, detail, written)
 }
 
 // The text of a type.
@@ -268,7 +257,7 @@ pub fn yokberd_checked_format_type(
     ensures written_after_2 { KeptOf Types types.now (kept_in checked.now) → left out.new (report result detail.new written.new) ≡ laid out.old (type_outcome flags size types.now index (length out.old)) }
 {
     let a = checked::format_type(types, checked, out, flags, size, TypeIndex(index));
-    report_text(a, detail, written)
+    report_count(a, detail, written)
 }
 
 // The size of a type; this call takes no flags.
@@ -333,7 +322,7 @@ pub fn yokberd_fill_places(
     ensures places_after { places.new ≡ (fill_pass types.now places.old).buf }
 {
     let a = fill_places(types, places);
-    report_places(a, detail, filled)
+    report_count(a, detail, filled)
 }
 
 // The text of a function, with lent places.
@@ -352,7 +341,7 @@ pub fn yokberd_placed_format_function(
     ensures function_placed_demand { FunctionPlacedDemand flags size types.now places.now name.now index }
 {
     let a = placed::format_function(types, places, out, flags, size, name, TypeIndex(index));
-    report_text(a, detail, written)
+    report_count(a, detail, written)
 }
 
 // The text of an id, with lent places.
@@ -371,7 +360,7 @@ pub fn yokberd_placed_format_id(
     ensures id_placed_demand { IdPlacedDemand flags size types.now ids.now places.now index }
 {
     let a = placed::format_id(types, ids, places, out, flags, size, IdIndex(index));
-    report_text(a, detail, written)
+    report_count(a, detail, written)
 }
 
 // The text of a type, with lent places.
@@ -389,7 +378,7 @@ pub fn yokberd_placed_format_type(
     ensures type_placed_demand { TypePlacedDemand flags size types.now places.now index }
 {
     let a = placed::format_type(types, places, out, flags, size, TypeIndex(index));
-    report_text(a, detail, written)
+    report_count(a, detail, written)
 }
 
 // The size of a type, with lent places; this call takes no flags.

@@ -8,20 +8,27 @@ ghost use Rattle.checked_calls.specs.Kept.{KeptOf, Kept, kept_in};
 ghost use Rattle.measures.specs.Measures.{of_measured};
 
 use codeview::index::{IdIndex, TypeIndex};
-use measures::answer::Measure;
+use measures::answer::Extent;
 use measures::{checked, measure_function, measure_id, measure_type, placed};
+use streams::refusal::Refusal;
 
-fn report_measure(a: Measure, detail: &mut u32, length: &mut usize, opened: &mut u64) -> u32
+#[tactic(auto, unfolding(measures::specs::Measures::of_measured))]
+fn report_measure(
+    a: Result<Extent, Refusal>,
+    detail: &mut u32,
+    length: &mut usize,
+    opened: &mut u64,
+) -> u32
     ensures { report_of result detail.new length.new opened.new ≡ of_measured a }
 {
     match a {
-        Measure::Text(e) => {
+        Ok(e) => {
             *detail = 0;
             *length = e.length;
             *opened = e.opened;
             0
         }
-        Measure::Refused(f) => {
+        Err(f) => {
             *detail = f.detail();
             *length = 0;
             *opened = 0;

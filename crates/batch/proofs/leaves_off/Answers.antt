@@ -7,8 +7,8 @@ use Rattle.batch.proofs.leaves_off.Goals as goal
 pub returns-then-at-eq0 : goal.returns-then-at-eq0
 returns-then-at-eq0 c = stays-first _ c.if-at-eq0.true
 
-pub returns-in-Text : goal.returns-in-Text
-returns-in-Text c = stays-text _ c.in-Text.is
+pub returns-in-Ok : goal.returns-in-Ok
+returns-in-Ok c = stays-text _ c.in-Ok.is
 
 pub returns-else-at-eq0 : goal.returns-else-at-eq0
-returns-else-at-eq0 c = leaves_by _ c.in-Refused.is (omega arith) c.number.ensures
+returns-else-at-eq0 c = leaves_by _ c.in-Err.is (omega arith) c.number.ensures

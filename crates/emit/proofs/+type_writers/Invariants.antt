@@ -2,7 +2,7 @@
 use Rattle.std.proofs.Common.{◌≡◌, ◌+◌, ◌-◌, ◌*◌, ◌≤◌, length, drop}
 use Rattle.pen.specs.Page.{page}
 use Rattle.rules.specs.Types.{comma}
-use Rattle.rules.specs.Places.{lent}
+use Rattle.rules.specs.Places.{lent_in}
 use Rattle.context.specs.Context.{settings_of}
 use Rattle.queries.specs.Arrays.{arrayed}
 use Rattle.emit.proofs.Laws.{Rest}
@@ -54,7 +54,4 @@ abbrev pub decreases-emit_type_inner : goal.decreases-emit_type_inner
 decreases-emit_type_inner l = l.left * 64 + (10 + 10 * arrayed l.t)
 
 abbrev pub invariant-emit_arg_list-loop-i : goal.invariant-emit_arg_list-loop-i
-invariant-emit_arg_list-loop-i l = (l.i ≤ l.e.count) × (length l.out ≡ length l.initial.out) × (length l.seen ≡ length l.initial.seen) × (drop l.left l.seen ≡ drop l.left l.initial.seen) × Rest l.types (lent l.ids l.bounds l.places) l.call (drop l.left l.initial.seen) l.types (comma (settings_of l.call)) l.e l.led l.between l.i (page l.out l.q) (page l.initial.out l.initial.q)
-
-abbrev pub decreases-emit_arg_list-loop-i : goal.decreases-emit_arg_list-loop-i
-decreases-emit_arg_list-loop-i l = l.e.count - l.i
+invariant-emit_arg_list-loop-i l = (l.i ≤ l.e.count) × (length l.out ≡ length l.initial.out) × (length l.seen ≡ 96) × (drop l.left l.seen ≡ drop l.left l.initial.seen) × Rest l.lent.types.now (lent_in l.lent) l.call (drop l.left l.initial.seen) l.lent.types.now (comma (settings_of l.call)) l.e l.led l.between l.i (page l.out l.q) (page l.initial.out l.initial.q)

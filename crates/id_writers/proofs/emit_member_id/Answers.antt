@@ -1,26 +1,17 @@
 -- The function type is opened in a list of its own, then read.
-use borrow.Enum.Refused.{opened}
-use borrow.Author.Rules.{rules}
-use native.Mathlib.Omega.{arith}
-use mathlib.Core.Path.{sym, ◌∙◌}
-use Rattle.context.proofs.Opening.{plain, writes-by, writes-length}
-use Rattle.id_writers.proofs.Laws.{member-open, member-bad, member-stopped, member-wrong, member_right, name-shown}
+use Rattle.std.proofs.Common.{rules, sym, ◌∙◌}
+use Rattle.context.proofs.Opening.{plain, writes-by}
+use Rattle.id_writers.proofs.Laws.{member-entry, member-body, first-stopped, first-open, first-bad, member-wrong, member_right, name-shown}
 use Rattle.id_writers.proofs.emit_member_id.Goals as goal
 
 pub returns-then-is_idle : goal.returns-then-is_idle
-returns-then-is_idle c = member-stopped _ _ _ _ _ _ c.open_index-q.ensures (search rules) _ (sym c.is_idle.ensures ∙ c.if-is_idle.true)
+returns-then-is_idle c = first-stopped _ _ _ _ _ _ (member-entry _ _ _ _ _ _) (member-body _ _ _ _ _ _) _ c.open_index-q.ensures (search rules) (sym c.is_idle.ensures ∙ c.if-is_idle.true)
 
-pub returns-in_default : goal.returns-in_default
-returns-in_default c = member-open _ _ _ _ _ _ c.open_index-q.ensures (search rules) _ (sym c.is_idle.ensures ∙ c.if-is_idle.false) c.type_at.ensures c.in-Good.is (writes-by (plain c.refuse.ensures) (member-wrong _ _ _ _ _ _ _ _ (opened c.in_default.in_default-own.keys2)))
+pub returns-in-Ok : goal.returns-in-Ok
+returns-in-Ok c = first-open _ _ _ _ _ _ (member-entry _ _ _ _ _ _) (member-body _ _ _ _ _ _) _ c.open_index-q.ensures (search rules) (sym c.is_idle.ensures ∙ c.if-is_idle.false) c.type_at.ensures c.in-Ok.is (writes-by (plain c.refuse.ensures) (member-wrong _ _ _ _ _ _ _ _ (search rules)))
 
-pub emit_member-requires : goal.emit_member-requires
-emit_member-requires c = (c.list-2-1.given, omega arith)
+pub returns-in-Ok-MemberFunction : goal.returns-in-Ok-MemberFunction
+returns-in-Ok-MemberFunction c = first-open _ _ _ _ _ _ (member-entry _ _ _ _ _ _) (member-body _ _ _ _ _ _) _ c.open_index-q.ensures (search rules) (sym c.is_idle.ensures ∙ c.if-is_idle.false) c.type_at.ensures c.in-Ok-MemberFunction.is (writes-by c.emit_member.ensures (member_right _ _ _ _ _ _ _ _ _ _ c.in-Ok-MemberFunction.field-0-is (name-shown _ _ _ c.name_of-name.ensures)))
 
-pub shape_of-out-in-MemberFunction : goal.shape_of-out-in-MemberFunction
-shape_of-out-in-MemberFunction c = writes-length c.emit_member.ensures
-
-pub returns-in-MemberFunction : goal.returns-in-MemberFunction
-returns-in-MemberFunction c = member-open _ _ _ _ _ _ c.open_index-q.ensures (search rules) _ (sym c.is_idle.ensures ∙ c.if-is_idle.false) c.type_at.ensures c.in-Good.is (writes-by c.emit_member.ensures (member_right _ _ _ _ _ _ _ _ _ _ c.in-MemberFunction.is (name-shown _ _ _ c.name_of-bytes.ensures)))
-
-pub returns-in-Refused : goal.returns-in-Refused
-returns-in-Refused c = member-bad _ _ _ _ _ _ c.open_index-q.ensures (search rules) _ (sym c.is_idle.ensures ∙ c.if-is_idle.false) c.type_at.ensures c.in-Refused.is c.unread.ensures
+pub returns-in-Err : goal.returns-in-Err
+returns-in-Err c = first-bad _ _ _ _ _ _ (member-entry _ _ _ _ _ _) (member-body _ _ _ _ _ _) _ c.open_index-q.ensures (search rules) (sym c.is_idle.ensures ∙ c.if-is_idle.false) c.type_at.ensures c.in-Err.is c.unread.ensures

@@ -1,6 +1,12 @@
--- The kind at the place of the code, and whether that is a place of the table.
-use Rattle.primitives.proofs.Table.{found_at}
+use Rattle.std.proofs.Common.{rules, refl, eqb}
+use borrow.Author.Tests.{tests}
+use Rattle.std.proofs.lemmas.Iterator.{YieldsList-from_slice}
+use Rattle.std.proofs.lemmas.Iterator.Search.{find_from_yields_List}
+use Rattle.primitives.specs.Primitive.{primitives}
+use Rattle.primitives.proofs.Table.{found}
 use Rattle.primitives.proofs.find_primitive.Goals as goal
 
 pub returns : goal.returns
-returns c = rw (c.kind_at-kind.ensures, c.find_place-i.ensures) (found_at c.args.code)
+unfolding primitives
+returns c =
+    found c.args.code _ _ _ c.iter.ensures.rest refl (find_from_yields_List (λ k. eqb k.code c.args.code) _ _ c.find.result c.find.ensures.ran (YieldsList-from_slice _ refl) (λ x b q k. search (rules, tests)))

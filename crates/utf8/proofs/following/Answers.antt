@@ -1,33 +1,15 @@
-use Rattle.utf8.proofs.Laws.{count-start, count-end, count-all, count-out, count-more}
-use native.Mathlib.Omega.{arith}
+-- The chain counts as long as each byte stands in its range.
+use Rattle.std.proofs.Common.{rules, tests, ◌∙◌, ◌&&◌, leb}
+use Rattle.std.specs.List.{zip}
+use Rattle.std.proofs.lemmas.Iterator.{YieldsList-from_slice, YieldsList-from_zip}
+use Rattle.std.proofs.lemmas.Iterator.Consumers.{count_from_yields_List}
+use Rattle.std.proofs.lemmas.Iterator.Search.{YieldsList-from_take_while}
+use Rattle.std.proofs.lemmas.List.Folds.{length-prefix_len}
+use Rattle.utf8.proofs.Laws.{fit-prefix}
 use Rattle.utf8.proofs.following.Goals as goal
 
-pub overflow_sub-end : goal.overflow_sub-end
-overflow_sub-end c = omega arith
-
-pub loop-n-init : goal.loop-n-init
-loop-n-init c = (omega arith, count-start c.args.s.now c.args.at _ _ _)
-
-pub returns-then-end-n : goal.returns-then-end-n
-returns-then-end-n c = count-end c.args.s.now c.args.at _ _ _ _ _ _ c.loop-n.invariant.1 c.if-end-n.true
-
-pub overflow_add-b : goal.overflow_add-b
-overflow_add-b c = omega arith
-
-pub bounds-s-at : goal.bounds-s-at
-bounds-s-at c = omega arith
-
-pub returns-then-b-low : goal.returns-then-b-low
-returns-then-b-low c = count-out c.args.s.now c.args.at _ _ _ _ _ _ c.loop-n.invariant.1 c.loop-n-test.true (omega arith) c.if-b-low.true
-
-pub overflow_add-n : goal.overflow_add-n
-overflow_add-n c = omega arith
-
-pub loop-n-smaller : goal.loop-n-smaller
-loop-n-smaller c = omega arith
-
-pub loop-n-preserved : goal.loop-n-preserved
-loop-n-preserved c = (omega arith, count-more c.args.s.now c.args.at _ _ _ _ _ _ c.loop-n.invariant.1 c.loop-n-test.true (omega arith) c.if-b-low.false)
-
 pub returns : goal.returns
-returns c = count-all c.args.s.now c.args.at _ _ _ _ _ _ c.loop-n.invariant.1 c.loop-n-test.false
+returns c =
+    count_from_yields_List c.take_while.result _ c.count.ensures.ran (YieldsList-from_take_while _ (λ p. leb p.0.low p.1 && leb p.1 p.0.high) (YieldsList-from_zip (YieldsList-from_slice c.args.ranges.now (cc)) (YieldsList-from_slice c.args.s.now (cc))) c.take_while.ensures.closure c.take_while.ensures.done (λ x b q k. search (rules, tests)))
+    ∙ length-prefix_len (λ p. leb p.0.low p.1 && leb p.1 p.0.high) (zip c.args.ranges.now c.args.s.now)
+    ∙ fit-prefix c.args.ranges.now c.args.s.now

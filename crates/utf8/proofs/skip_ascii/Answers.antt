@@ -1,28 +1,17 @@
-use Rattle.std.proofs.Common.{ap}
-use mathlib.Core.Bool.{not}
-use mathlib.Core.Path.{refl, sym, ◌∙◌}
-use borrow.Author.Tests.{not-false}
-use Rattle.utf8.proofs.Laws.{run-eight}
-use native.Mathlib.Omega.{arith}
+-- Each eight that is passed over is ASCII.
+use Rattle.std.proofs.Common.{rules, tests, ◌≡◌, ◌∙◌, ltb, drop}
+use Rattle.std.specs.List.{list_all}
+use Rattle.std.proofs.lemmas.List.{take_rest}
+use Rattle.std.proofs.lemmas.Iterator.{YieldsList-from_slice}
+use Rattle.std.proofs.lemmas.Iterator.Consumers.{count_from_yields_List}
+use Rattle.std.proofs.lemmas.Iterator.Search.{YieldsList-from_take_while}
+use Rattle.std.proofs.lemmas.List.Folds.{length-prefix_len}
+use Rattle.utf8.proofs.Laws.{eights_skipped}
 use Rattle.utf8.proofs.skip_ascii.Goals as goal
 
-pub loop-at-init : goal.loop-at-init
-loop-at-init c = (omega arith, refl)
-
-pub ascii_in_eight-requires : goal.ascii_in_eight-requires
-ascii_in_eight-requires c = omega (arith, c.left-stop.ensures)
-
-pub returns-then-not-ascii_in_eight : goal.returns-then-not-ascii_in_eight
-returns-then-not-ascii_in_eight c = c.loop-at.invariant
-
-pub overflow_add-at : goal.overflow_add-at
-overflow_add-at c = omega (arith, c.left-stop.ensures)
-
-pub loop-at-smaller : goal.loop-at-smaller
-loop-at-smaller c = omega (arith, c.left-stop.ensures)
-
-pub loop-at-preserved : goal.loop-at-preserved
-loop-at-preserved c = (omega arith, c.loop-at.invariant.1 ∙ run-eight 8 _ _ (omega (arith, c.left-stop.ensures)) (sym c.ascii_in_eight.ensures ∙ not-false _ (ap not c.if-not-ascii_in_eight.false)))
-
 pub returns : goal.returns
-returns c = c.loop-at.invariant
+returns c =
+    let k : c.in-Some.rest.now ≡ drop c.args.from c.args.s.now = c.in-Some.ensures.lookup.0.2 ∙ take_rest c.args.s.now c.args.from in
+    eights_skipped c.args.s.now c.args.from _ _ _ k c.as_chunks.ensures.front
+    (count_from_yields_List c.take_while.result _ c.count.ensures.ran (YieldsList-from_take_while _ (list_all (λ b. ltb b 128)) (YieldsList-from_slice c.as_chunks.result.0.now (cc)) c.take_while.ensures.closure c.take_while.ensures.done (λ x b q k. search (rules, tests)))
+    ∙ length-prefix_len _ c.as_chunks.result.0.now)

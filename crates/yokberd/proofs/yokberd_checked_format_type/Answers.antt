@@ -4,4 +4,4 @@ use borrow.Author.Rules.{rules}
 use Rattle.yokberd.proofs.yokberd_checked_format_type.Goals as goal
 
 pub returns : goal.returns
-returns c = let e = text-kept _ _ _ _ _ (c.format_type-a.ensures.result_after, c.format_type-a.ensures.result_after_2) c.report_text.ensures in record { written_after = e.0; written_after_2 = e.1 }
+returns c = let e = text-kept _ _ _ _ _ (c.format_type-a.ensures.result_after, c.format_type-a.ensures.result_after_2) c.report_count.ensures.text in record { written_after = e.0; written_after_2 = e.1 }

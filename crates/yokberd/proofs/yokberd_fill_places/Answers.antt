@@ -4,4 +4,4 @@ use borrow.Author.Rules.{rules}
 use Rattle.yokberd.proofs.yokberd_fill_places.Goals as goal
 
 pub returns : goal.returns
-returns c = let e = pass-left _ _ _ c.fill_places-a.ensures c.report_places.ensures in record { filled_after = e.0; places_after = e.1 }
+returns c = let e = pass-left _ _ _ c.fill_places-a.ensures c.report_count.ensures.pass in record { filled_after = e.0; places_after = e.1 }

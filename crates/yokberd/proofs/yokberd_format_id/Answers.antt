@@ -1,11 +1,7 @@
 -- The buffer is as the call left it, and its answer is reported.
 use Rattle.yokberd.proofs.Laws.{text-left}
 use borrow.Author.Rules.{rules}
-use Rattle.yokberd.proofs.yokberd_format_id.Reads as reads
-use Rattle.yokberd.proofs.yokberd_format_id.Lts as lts
-use Rattle.type_formatter.proofs.format_id.Reads as format-id-reads
-use Rattle.yokberd.proofs.report_text.Reads as report-text-reads
 use Rattle.yokberd.proofs.yokberd_format_id.Goals as goal
 
 pub returns : goal.returns
-returns c = let e = text-left _ _ _ _ (c.format_id-a.ensures.result_after, c.format_id-a.ensures.id_demand) c.report_text.ensures in record { written_after = e.0; id_demand = e.1 }
+returns c = let e = text-left _ _ _ _ (c.format_id-a.ensures.result_after, c.format_id-a.ensures.id_demand) c.report_count.ensures.text in record { written_after = e.0; id_demand = e.1 }

@@ -1,10 +1,6 @@
 -- The answer of the call is reported.
 use Rattle.yokberd.proofs.Laws.{size-report}
 use borrow.Author.Rules.{rules}
-use Rattle.yokberd.proofs.yokberd_get_type_size.Reads as reads
-use Rattle.yokberd.proofs.yokberd_get_type_size.Lts as lts
-use Rattle.type_formatter.proofs.get_type_size.Reads as get-type-size-reads
-use Rattle.yokberd.proofs.report_size.Reads as report-size-reads
 use Rattle.yokberd.proofs.yokberd_get_type_size.Goals as goal
 
 pub returns : goal.returns

@@ -4,4 +4,4 @@ use borrow.Author.Rules.{rules}
 use Rattle.yokberd.proofs.yokberd_placed_format_function.Goals as goal
 
 pub returns : goal.returns
-returns c = let e = text-left _ _ _ _ (c.format_function-a.ensures.result_after, c.format_function-a.ensures.function_placed_demand) c.report_text.ensures in record { written_after = e.0; function_placed_demand = e.1 }
+returns c = let e = text-left _ _ _ _ (c.format_function-a.ensures.result_after, c.format_function-a.ensures.function_placed_demand) c.report_count.ensures.text in record { written_after = e.0; function_placed_demand = e.1 }

@@ -1,9 +1,6 @@
 -- The page and the counts are those of the call.
 use Rattle.yokberd.proofs.Laws.{sheet-left}
 use borrow.Author.Rules.{rules}
-use Rattle.yokberd.proofs.yokberd_print_sheet.Reads as reads
-use Rattle.yokberd.proofs.yokberd_print_sheet.Lts as lts
-use Rattle.sheet.proofs.print_sheet.Reads as print-sheet-reads
 use Rattle.yokberd.proofs.yokberd_print_sheet.Goals as goal
 
 pub returns : goal.returns

@@ -3,8 +3,8 @@ use Rattle.checked_calls.proofs.CallsLaws.{function-good, function-refused}
 use borrow.Author.Rules.{rules}
 use Rattle.checked_calls.proofs.calls.walk_function.Goals as goal
 
-pub returns-in-Good : goal.returns-in-Good
-returns-in-Good c = function-good _ _ _ _ c.check_call.ensures _ _ c.args.limit c.in-Good.is c.emit_function.ensures c.start-c.ensures
+pub returns-in-Ok : goal.returns-in-Ok
+returns-in-Ok c = function-good _ _ _ _ c.check_call.ensures _ _ c.args.limit c.in-Ok.is c.emit_function.ensures c.start-c.ensures
 
-pub returns-in-Refused : goal.returns-in-Refused
-returns-in-Refused c = function-refused _ _ _ _ c.check_call.ensures _ _ c.args.limit c.in-Refused.is c.refuse.ensures c.start-c.ensures
+pub returns-in-Err : goal.returns-in-Err
+returns-in-Err c = function-refused _ _ _ _ c.check_call.ensures _ _ c.args.limit c.in-Err.is c.refuse.ensures c.start-c.ensures

@@ -4,8 +4,8 @@ use Rattle.checked_calls.proofs.CallsLaws.{type-good, type-refused}
 use borrow.Author.Rules.{rules}
 use Rattle.checked_calls.proofs.calls.walk_type.Goals as goal
 
-pub returns-in-Good : goal.returns-in-Good
-returns-in-Good c = type-good _ _ _ _ c.check_call.ensures _ c.args.limit c.in-Good.is (wrote-first c.emit_type_index.ensures (search rules)) c.start-a.ensures
+pub returns-in-Ok : goal.returns-in-Ok
+returns-in-Ok c = type-good _ _ _ _ c.check_call.ensures _ c.args.limit c.in-Ok.is (wrote-first c.emit_type_index.ensures (search rules)) c.start-a.ensures
 
-pub returns-in-Refused : goal.returns-in-Refused
-returns-in-Refused c = type-refused _ _ _ _ c.check_call.ensures _ c.args.limit c.in-Refused.is c.refuse.ensures c.start-a.ensures
+pub returns-in-Err : goal.returns-in-Err
+returns-in-Err c = type-refused _ _ _ _ c.check_call.ensures _ c.args.limit c.in-Err.is c.refuse.ensures c.start-a.ensures

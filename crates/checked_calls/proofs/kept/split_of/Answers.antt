@@ -7,4 +7,4 @@ pub overflow_add-wide : goal.overflow_add-wide
 overflow_add-wide c = omega (arith, c.wide.ensures)
 
 pub returns : goal.returns
-returns c = rw (c.shorter.ensures, c.wide.ensures, c.number_at.ensures)
+returns c = rw (c.min.ensures, c.wide.ensures, c.number_at.ensures)

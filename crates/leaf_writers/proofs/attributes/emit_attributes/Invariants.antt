@@ -1,15 +1,11 @@
--- The invariant: what is on the page, and the levels from i on, make all levels. The measure is the levels that are left.
-use Prim.Native.Nat.{◌-◌}
+-- What is on the page, and the levels from i on, make all levels.
 use mathlib.Core.Path.{◌≡◌}
 use mathlib.Core.List.{map}
-use lib.ListN.{length, drop}
+use lib.ListN.{drop}
 use Rattle.rules.specs.Text.{levels}
 use Rattle.pen.specs.Page.{page, read_page, ink}
 use Rattle.context.specs.Context.{settings_of, level_at}
 use Rattle.leaf_writers.proofs.attributes.emit_attributes.Given as goal
 
 abbrev pub invariant-loop-i : goal.invariant-loop-i
-invariant-loop-i l = (length l.items ≡ 96) × (length l.out ≡ length l.initial.out) × (ink (read_page (page l.out l.q)) (levels (settings_of l.call) l.f l.s (map level_at (drop l.i l.items))) ≡ ink (read_page (page l.initial.out l.initial.q)) (levels (settings_of l.call) l.initial.f l.initial.s (map level_at (drop l.initial.i l.items))))
-
-abbrev pub decreases-loop-i : goal.decreases-loop-i
-decreases-loop-i l = 96 - l.i
+invariant-loop-i l = ink (read_page (page l.out l.q)) (levels (settings_of l.call) l.f l.s (map level_at (drop l.i l.o.items))) ≡ ink (read_page (page l.initial.out l.initial.q)) (levels (settings_of l.call) l.initial.f l.initial.s (map level_at (drop l.o.left l.o.items)))

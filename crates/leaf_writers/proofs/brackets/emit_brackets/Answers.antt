@@ -1,3 +1,4 @@
+-- No level yet, one more, and all.
 use borrow.Author.Rules.{rules}
 use native.Mathlib.Omega.{arith}
 use Prim.Native.Nat.{◌-◌}
@@ -9,14 +10,11 @@ use Rattle.leaf_writers.proofs.BracketsLaws.{brackets-start, brackets-turn, brac
 use Rattle.leaf_writers.proofs.brackets.emit_brackets.Goals as goal
 
 pub loop-n-init : goal.loop-n-init
-loop-n-init c = let e : length c.args.o.items ≡ 32 = search rules in (e, omega arith, (λ h. drop_past c.args.o.items c.args.o.left c.args.size e h), refl, wrote_as (brackets-start c.args.o.items c.args.o.left c.args.size e) wrote_none)
+loop-n-init c = let e : length c.args.o.items ≡ 32 = search rules in (omega arith, (λ h. drop_past c.args.o.items c.args.o.left c.args.size e h), wrote_as (brackets-start c.args.o.items c.args.o.left c.args.size e) wrote_none)
 
 pub loop-n-preserved : goal.loop-n-preserved
-loop-n-preserved c = let e : length c.args.o.items ≡ 32 = c.loop-n.invariant.0 in (e, omega arith, (λ h. let k : c.loop-n.n - 1 ≡ c.args.o.left = omega arith in ap (λ k. drop k c.args.o.items) k), cc, wrote_by (c.loop-n.invariant.4 ▹ c.emit_bracket-q.ensures) (brackets-turn c.args.o.items c.args.o.left c.args.size e c.loop-n.n _ _ c.loop-n-test.true c.loop-n.invariant.1 refl c.size_inside.ensures))
-
-pub shape_of-out : goal.shape_of-out
-shape_of-out c = c.loop-n.invariant.3
+loop-n-preserved c = let e : length c.args.o.items ≡ 32 = search rules in (omega arith, (λ h. let k : c.loop-n.n - 1 ≡ c.args.o.left = omega arith in ap (λ k. drop k c.args.o.items) k), wrote_by (c.loop-n.invariant.2 ▹ c.emit_bracket-q.ensures) (brackets-turn c.args.o.items c.args.o.left c.args.size e c.loop-n.n _ _ c.loop-n-test.true c.loop-n.invariant.0 refl c.size_inside.ensures))
 
 pub returns : goal.returns
 unfolding sizes_of
-returns c = wrote_by c.loop-n.invariant.4 (brackets-whole c.args.o.items c.args.o.left c.args.size c.loop-n.invariant.0 c.loop-n.n (omega arith) (c.loop-n.invariant.2 (omega arith)))
+returns c = let e : length c.args.o.items ≡ 32 = search rules in wrote_by c.loop-n.invariant.2 (brackets-whole c.args.o.items c.args.o.left c.args.size e c.loop-n.n (omega arith) (c.loop-n.invariant.1 (omega arith)))

@@ -7,7 +7,7 @@ use Rattle.leaf_writers.proofs.NamesLaws.{Leads}
 use Rattle.leaf_writers.proofs.names.emit_shown.Given as goal
 
 abbrev pub invariant-loop-at : goal.invariant-loop-at
-invariant-loop-at l = (l.at ≤ length l.name) × (length l.out ≡ length l.initial.out) × Leads (read_page (page l.initial.out l.initial.q)) l.name (read_page (page l.out l.q)) l.at
+invariant-loop-at l = (l.at ≤ length l.name) × Leads (read_page (page l.initial.out l.initial.q)) l.name (read_page (page l.out l.q)) l.at
 
 abbrev pub decreases-loop-at : goal.decreases-loop-at
 decreases-loop-at l = length l.name - l.at

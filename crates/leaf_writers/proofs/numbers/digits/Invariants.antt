@@ -1,5 +1,4 @@
--- The invariant: the digits still to come, and those that stand at the end, are the number. The measure is how many there is room for.
-use Prim.Native.Nat.{◌≤◌}
+-- The digits still to come, and those that stand at the end, are the number.
 use mathlib.Core.Path.{◌≡◌}
 use mathlib.Core.List.{◌++◌}
 use lib.ListN.{length, drop}
@@ -7,7 +6,4 @@ use Rattle.rules.specs.Text.{numeral}
 use Rattle.leaf_writers.proofs.numbers.digits.Given as goal
 
 abbrev pub invariant-loop-at : goal.invariant-loop-at
-invariant-loop-at l = (numeral l.base (length l.initial.buf) l.n ≡ numeral l.base l.at l.rest ++ drop l.at l.buf) × ((length l.buf ≡ length l.initial.buf) × (l.at ≤ length l.initial.buf))
-
-abbrev pub decreases-loop-at : goal.decreases-loop-at
-decreases-loop-at l = l.at
+invariant-loop-at l = numeral l.base (length l.initial.buf) l.n ≡ numeral l.base l.at l.rest ++ drop l.at l.buf

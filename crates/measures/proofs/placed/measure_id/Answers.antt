@@ -7,10 +7,10 @@ use Rattle.rules.proofs.Measuring.{id-placed-measure-demand}
 use borrow.Author.Rules.{rules}
 use Rattle.measures.proofs.placed.measure_id.Goals as goal
 
-pub returns-in-Right : goal.returns-in-Right
+pub returns-in-Ok : goal.returns-in-Ok
 unfolding id_placed_measure
-returns-in-Right c = record { result_value = c.id_over.ensures ∙ ap (λ (o : Outcome). of_measure (measure_of o)) (id-lent _ _ _ (c.keep_lent_ids.ensures c.args.types.now c.args.places.now c.check_placed-c.ensures.0).0 (sym c.check_placed-c.ensures.1 ∙ c.in-Right.is) _ (c.keep_lent_ids.ensures c.args.types.now c.args.places.now c.check_placed-c.ensures.0).1 _ _ _ _); id_placed_measure_demand = id-placed-measure-demand _ _ _ _ _ _ }
+returns-in-Ok c = record { result_value = c.id_over.ensures ∙ ap (λ (o : Outcome). of_measure (measure_of o)) (id-lent _ _ _ (c.keep_lent_ids.ensures c.args.types.now c.args.places.now c.check_placed-c.ensures.0).0 (sym c.check_placed-c.ensures.1 ∙ c.in-Ok.is) _ (c.keep_lent_ids.ensures c.args.types.now c.args.places.now c.check_placed-c.ensures.0).1 _ _ _ _); id_placed_measure_demand = id-placed-measure-demand _ _ _ _ _ _ }
 
-pub returns-in-Wrong : goal.returns-in-Wrong
+pub returns-in-Err : goal.returns-in-Err
 unfolding id_placed_measure
-returns-in-Wrong c = record { result_value = (rw c.check_id_call.ensures at c.refuse_place.ensures) ∙ ap (λ (o : Outcome). of_measure (measure_of o)) (id-unlent _ _ _ (c.keep_lent_ids.ensures c.args.types.now c.args.places.now c.check_placed-c.ensures.0).0 _ (sym c.check_placed-c.ensures.1 ∙ c.in-Wrong.is) _ (c.keep_lent_ids.ensures c.args.types.now c.args.places.now c.check_placed-c.ensures.0).1 _ _ _ _); id_placed_measure_demand = id-placed-measure-demand _ _ _ _ _ _ }
+returns-in-Err c = record { result_value = (rw c.check_id_call.ensures at c.refuse_place.ensures) ∙ ap (λ (o : Outcome). of_measure (measure_of o)) (id-unlent _ _ _ (c.keep_lent_ids.ensures c.args.types.now c.args.places.now c.check_placed-c.ensures.0).0 _ (sym c.check_placed-c.ensures.1 ∙ c.in-Err.is) _ (c.keep_lent_ids.ensures c.args.types.now c.args.places.now c.check_placed-c.ensures.0).1 _ _ _ _); id_placed_measure_demand = id-placed-measure-demand _ _ _ _ _ _ }

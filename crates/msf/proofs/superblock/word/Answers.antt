@@ -1,12 +1,9 @@
--- The field's two cases.
-use Rattle.wire.proofs.Laws.{read32, unread32}
+-- What the field's two cases come to is the field's.
+use Rattle.std.proofs.Common.{◌∙◌, ap, Some, None, Option, ℕ, unwrap_or}
+use Rattle.wire.proofs.Laws.{map-field}
 use Rattle.msf.specs.Superblock.{word}
 use Rattle.msf.proofs.superblock.word.Goals as goal
 
-pub returns-in-Value : goal.returns-in-Value
+pub returns : goal.returns
 unfolding word
-returns-in-Value c = rw (read32 _ _ c.u32_at.ensures _ c.in-Value.is)
-
-pub returns-in-Outside : goal.returns-in-Outside
-unfolding word
-returns-in-Outside c = rw (unread32 _ _ c.u32_at.ensures c.in-Outside.is)
+returns c = c.unwrap_or.ensures ∙ (ap (λ (o : Option ℕ). unwrap_or o 0) c.field_at.ensures ∙ map-field (λ (o : Option ℕ). unwrap_or o 0) 4 _ _ Some None)

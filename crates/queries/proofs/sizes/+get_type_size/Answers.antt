@@ -1,51 +1,53 @@
-use borrow.Enum.Refused.{opened}
-use Prim.Native.Nat.{ℕ}
+-- What could not be read, a primitive and a chain that is too long are told at once; any other record tells its size, or the index that it goes on with.
 use borrow.Author.Rules.{rules}
-use mathlib.Core.Path.{refl}
-use Rattle.queries.proofs.ChainLaws.{data-primitive, data-modifier, data-pointer, data-procedure, data-method, data-arguments, data-enumerate, data-array, data-class, data-union, data-enumeration, data-unhandled, sizes-refused, sizes-primitive, sizes-long, sizes-data}
+use Rattle.rules.specs.Record.{type_contents}
+use Rattle.rules.specs.Sizes.{record_size, named_size}
+use Rattle.context.specs.Context.{settings_of}
+use Rattle.rules.specs.Flags.{settings}
+use Rattle.queries.proofs.ChainLaws.{size-refused, size-primitive, size-long, size-told, size-next}
 use Rattle.queries.proofs.sizes.+get_type_size.Goals as goal
 
 pub returns-in_default : goal.returns-in_default
-returns-in_default t c = sizes-refused _ _ _ _ _ c.type_at.ensures _ c.in_default.is
+returns-in_default t c = search (size-refused, rules)
 
 pub returns-in-Primitive : goal.returns-in-Primitive
-returns-in-Primitive t c = sizes-primitive _ _ _ _ _ c.type_at.ensures c.in-Good.is _ c.in-Primitive.is c.get_primitive_size.ensures
+returns-in-Primitive t c = search (size-primitive, rules)
 
-pub returns-then-n-ge32 : goal.returns-then-n-ge32
-returns-then-n-ge32 t c = sizes-long _ _ _ _ _ c.type_at.ensures c.in-Good.is (opened c.in_default-t.in_default-t-own.keys2) c.if-n-ge32.true
-
-pub returns-in-Primitive-t : goal.returns-in-Primitive-t
-returns-in-Primitive-t t c = sizes-data _ _ _ _ _ c.type_at.ensures c.in-Good.is (opened c.in_default-t.in_default-t-own.keys2) c.if-n-ge32.false (data-primitive _ _ _ _ _ _ _ c.in-Primitive-t.is c.get_primitive_size-in-Primitive-t.ensures)
-
-pub returns-in-Modifier : goal.returns-in-Modifier
-returns-in-Modifier t c = sizes-data _ _ _ _ _ c.type_at.ensures c.in-Good.is (opened c.in_default-t.in_default-t-own.keys2) c.if-n-ge32.false (data-modifier _ _ _ _ _ _ _ c.in-Modifier.is c.get_type_size-r.ensures)
+pub returns-in_default-t : goal.returns-in_default-t
+returns-in_default-t t c = search (size-long, rules)
 
 pub returns-in-Pointer : goal.returns-in-Pointer
-returns-in-Pointer t c = sizes-data _ _ _ _ _ c.type_at.ensures c.in-Good.is (opened c.in_default-t.in_default-t-own.keys2) c.if-n-ge32.false (data-pointer _ _ _ _ _ _ _ c.in-Pointer.is)
+unfolding record_size type_contents
+returns-in-Pointer t c = search (size-told, rules)
 
 pub returns-in-Procedure : goal.returns-in-Procedure
-returns-in-Procedure t c = sizes-data _ _ _ _ _ c.type_at.ensures c.in-Good.is (opened c.in_default-t.in_default-t-own.keys2) c.if-n-ge32.false (data-procedure _ _ _ _ _ _ _ c.in-Procedure.is)
-
-pub returns-in-MemberFunction : goal.returns-in-MemberFunction
-returns-in-MemberFunction t c = sizes-data _ _ _ _ _ c.type_at.ensures c.in-Good.is (opened c.in_default-t.in_default-t-own.keys2) c.if-n-ge32.false (data-method _ _ _ _ _ _ _ c.in-MemberFunction.is)
+unfolding record_size type_contents settings_of settings
+returns-in-Procedure t c = search (size-told, rules)
 
 pub returns-in-ArgumentList : goal.returns-in-ArgumentList
-returns-in-ArgumentList t c = sizes-data _ _ _ _ _ c.type_at.ensures c.in-Good.is (opened c.in_default-t.in_default-t-own.keys2) c.if-n-ge32.false (data-arguments _ _ _ _ _ _ _ c.in-ArgumentList.is)
+unfolding record_size type_contents named_size
+returns-in-ArgumentList t c = search (size-told, rules)
 
 pub returns-in-Enumerate : goal.returns-in-Enumerate
-returns-in-Enumerate t c = sizes-data _ _ _ _ _ c.type_at.ensures c.in-Good.is (opened c.in_default-t.in_default-t-own.keys2) c.if-n-ge32.false (data-enumerate _ _ _ _ _ _ _ c.in-Enumerate.is)
+unfolding record_size type_contents named_size
+returns-in-Enumerate t c = search (size-told, rules)
 
 pub returns-in-Array : goal.returns-in-Array
-returns-in-Array t c = sizes-data _ _ _ _ _ c.type_at.ensures c.in-Good.is (opened c.in_default-t.in_default-t-own.keys2) c.if-n-ge32.false (data-array _ _ _ _ _ _ _ c.in-Array.is)
+unfolding record_size type_contents
+returns-in-Array t c = search (size-told, rules)
 
 pub returns-in-Class : goal.returns-in-Class
-returns-in-Class t c = sizes-data _ _ _ _ _ c.type_at.ensures c.in-Good.is (opened c.in_default-t.in_default-t-own.keys2) c.if-n-ge32.false (data-class _ _ _ _ _ _ _ c.in-Class.is refl c.get_class_size.ensures)
+unfolding record_size named_size type_contents
+returns-in-Class t c = search (size-told, c.get_layout_size.ensures c.args.call, rules)
 
 pub returns-in-Union : goal.returns-in-Union
-returns-in-Union t c = sizes-data _ _ _ _ _ c.type_at.ensures c.in-Good.is (opened c.in_default-t.in_default-t-own.keys2) c.if-n-ge32.false (data-union _ _ _ _ _ _ _ c.in-Union.is refl c.get_union_size.ensures)
+unfolding record_size named_size type_contents
+returns-in-Union t c = search (size-told, c.get_layout_size-in-Union.ensures c.args.call, rules)
+
+pub returns-in-Modifier : goal.returns-in-Modifier
+unfolding record_size named_size type_contents
+returns-in-Modifier t c = search (size-next, rules)
 
 pub returns-in-Enumeration : goal.returns-in-Enumeration
-returns-in-Enumeration t c = sizes-data _ _ _ _ _ c.type_at.ensures c.in-Good.is (opened c.in_default-t.in_default-t-own.keys2) c.if-n-ge32.false (data-enumeration _ _ _ _ _ _ _ c.in-Enumeration.is c.get_type_size-r-in-Enumeration.ensures)
-
-pub returns-in-Unhandled : goal.returns-in-Unhandled
-returns-in-Unhandled t c = sizes-data _ _ _ _ _ c.type_at.ensures c.in-Good.is (opened c.in_default-t.in_default-t-own.keys2) c.if-n-ge32.false (data-unhandled _ _ _ _ _ _ _ c.in-Unhandled.is)
+unfolding record_size named_size type_contents
+returns-in-Enumeration t c = search (size-next, rules)

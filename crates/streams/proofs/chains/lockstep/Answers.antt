@@ -1,45 +1,41 @@
-use Prim.Native.Nat.{◌<◌}
-use mathlib.Core.Path.{refl, ◌∙◌}
-use native.Mathlib.Omega.{arith}
+use Rattle.std.proofs.Common.{◌+◌, ◌-◌, refl, arith}
+use Rattle.streams.proofs.Chained.{together_start, together_step, linked_far}
+use Rattle.streams.specs.Chains.{Stepped}
 use Rattle.streams.proofs.Walk.{passed-grows}
-use Rattle.streams.proofs.Chained.{linked-low, linked-few, due-waits, together-start, together-note, together-stretch, together-due}
+use Rattle.streams.proofs.chains.lockstep.Goals.{After-stretch-t}
 use Rattle.streams.proofs.chains.lockstep.Goals as goal
 
-pub overflow_mul-third : goal.overflow_mul-third
-overflow_mul-third c = omega (arith, c.requires.6)
+pub loop-pace-init : goal.loop-pace-init
+loop-pace-init c = (together_start _ _ _ _ _ _ _, refl, record { first = refl; second = refl; third = refl; fourth = refl })
 
-pub overflow_mul-fourth : goal.overflow_mul-fourth
-overflow_mul-fourth c = omega (arith, c.requires.6)
+pub note-requires : goal.note-requires
+note-requires c = let f = linked_far _ _ _ _ _ _ c.loop-pace.invariant.0.first (omega arith) in omega arith
 
-pub loop-x-init : goal.loop-x-init
-loop-x-init c = (together-start _ _ _ _ _ _ _, refl)
+pub note-requires-in-loop-pace : goal.note-requires-in-loop-pace
+note-requires-in-loop-pace c = let f = linked_far _ _ _ _ _ _ c.loop-pace.invariant.0.second (omega arith) in omega arith
 
-pub note-e0-requires : goal.note-e0-requires
-note-e0-requires c = (omega (arith, linked-low _ _ _ _ _ _ _ _ _ _ c.loop-x.invariant.0.first c.requires.1, c.requires.0), omega (arith, c.loop-x.invariant.1, c.requires.6))
+pub note-requires-in-loop-pace-2 : goal.note-requires-in-loop-pace-2
+note-requires-in-loop-pace-2 c = let f = linked_far _ _ _ _ _ _ c.loop-pace.invariant.0.third (omega arith) in omega arith
 
-pub note-e1-requires : goal.note-e1-requires
-note-e1-requires c = (omega (arith, linked-low _ _ _ _ _ _ _ _ _ _ c.loop-x.invariant.0.second c.requires.2, c.requires.0), omega (arith, c.loop-x.invariant.1, c.requires.6, c.note-e0.ensures.within.sized))
+pub note-due-requires : goal.note-due-requires
+note-due-requires c = let f = linked_far _ _ _ _ _ _ c.loop-pace.invariant.0.fourth (omega arith) in omega arith
 
-pub note-e2-requires : goal.note-e2-requires
-note-e2-requires c = (omega (arith, linked-low _ _ _ _ _ _ _ _ _ _ c.loop-x.invariant.0.third c.requires.3, c.requires.0), omega (arith, c.loop-x.invariant.1, c.requires.6, c.note-e1.ensures.within.sized, c.note-e0.ensures.within.sized))
+-- One turn of the loop.
+turn : (c : After-stretch-t) → Stepped c.args.s.now c.args.starts c.args.stride c.args.a.now c.args.b.now c.args.c.now c.args.d.now c.note.new.part c.note-in-loop-pace.new.part c.note-in-loop-pace-2.new.part c.note-due.new.part
+    (record { at = c.stretch-t.result.at; pace = record { n = c.note-due.result.n + c.stretch-t.result.n; k = c.note-due.result.k; wait = c.note-due.result.wait - c.stretch-t.result.n } })
+turn c = together_step _ _ _ c.requires.4 c.loop-pace.invariant.2 c.loop-pace.invariant.0 c.note.ensures c.note-in-loop-pace.ensures c.note-in-loop-pace-2.ensures c.note-due.ensures c.stretch-t.ensures
 
-pub note-e3-requires : goal.note-e3-requires
-note-e3-requires c = (omega (arith, linked-low _ _ _ _ _ _ _ _ _ _ c.loop-x.invariant.0.fourth c.requires.4, c.requires.0), omega (arith, c.loop-x.invariant.1, c.requires.6, c.note-e2.ensures.within.sized, c.note-e1.ensures.within.sized, c.note-e0.ensures.within.sized))
+pub overflow_add-pace : goal.overflow_add-pace
+overflow_add-pace c = let f = linked_far _ _ _ _ _ _ (turn (goal.at.overflow_add-pace c).After-stretch-t).linked.first (omega arith) in omega arith
 
-pub overflow_sub-left : goal.overflow_sub-left
-overflow_sub-left c = c.stretch-t.ensures.within
+pub returns-then-pace-gt0 : goal.returns-then-pace-gt0
+returns-then-pace-gt0 c = turn (goal.at.returns-then-pace-gt0 c).After-stretch-t
 
-pub overflow_add-n : goal.overflow_add-n
-overflow_add-n c = omega (arith, linked-few _ _ _ _ _ _ _ _ _ _ (together-stretch _ _ _ _ _ _ _ _ _ _ _ _ _ _ (together-note _ _ _ _ _ _ _ _ _ _ _ _ _ _ c.loop-x.invariant.0 _ _ _ _ _ _ _ _ c.note-e0.ensures c.note-e1.ensures c.note-e2.ensures c.note-e3.ensures) _ c.stretch-t.ensures).first, linked-low _ _ _ _ _ _ _ _ _ _ (together-stretch _ _ _ _ _ _ _ _ _ _ _ _ _ _ (together-note _ _ _ _ _ _ _ _ _ _ _ _ _ _ c.loop-x.invariant.0 _ _ _ _ _ _ _ _ c.note-e0.ensures c.note-e1.ensures c.note-e2.ensures c.note-e3.ensures) _ c.stretch-t.ensures).first c.requires.1, c.requires.0)
+pub loop-pace-smaller : goal.loop-pace-smaller
+loop-pace-smaller c =
+    let w = c.note-due.ensures.waits (omega arith) in
+    let f = linked_far _ _ _ _ _ _ (turn (goal.at.loop-pace-smaller c).After-stretch-t).linked.first (omega arith) in
+    omega (arith, passed-grows _ _ _ _ c.stretch-t.ensures.first)
 
-pub shape_of-places-then-left-gt0 : goal.shape_of-places-then-left-gt0
-shape_of-places-then-left-gt0 c = c.note-e3.ensures.within.sized ∙ c.note-e2.ensures.within.sized ∙ c.note-e1.ensures.within.sized ∙ c.note-e0.ensures.within.sized ∙ c.loop-x.invariant.1
-
-pub returns-then-left-gt0 : goal.returns-then-left-gt0
-returns-then-left-gt0 c = record { sized = c.note-e3.ensures.within.sized ∙ c.note-e2.ensures.within.sized ∙ c.note-e1.ensures.within.sized ∙ c.note-e0.ensures.within.sized ∙ c.loop-x.invariant.1; linked = together-stretch _ _ _ _ _ _ _ _ _ _ _ _ _ _ (together-note _ _ _ _ _ _ _ _ _ _ _ _ _ _ c.loop-x.invariant.0 _ _ _ _ _ _ _ _ c.note-e0.ensures c.note-e1.ensures c.note-e2.ensures c.note-e3.ensures) _ c.stretch-t.ensures }
-
-pub loop-x-smaller : goal.loop-x-smaller
-loop-x-smaller c = let waits : 0 < c.note-e3.result.wait = rw c.note-e3.ensures.is (due-waits _ _ _ _ c.requires.5) in omega (arith, passed-grows _ _ _ _ c.stretch-t.ensures.first, linked-low _ _ _ _ _ _ _ _ _ _ (together-stretch _ _ _ _ _ _ _ _ _ _ _ _ _ _ (together-note _ _ _ _ _ _ _ _ _ _ _ _ _ _ c.loop-x.invariant.0 _ _ _ _ _ _ _ _ c.note-e0.ensures c.note-e1.ensures c.note-e2.ensures c.note-e3.ensures) _ c.stretch-t.ensures).first c.requires.1, c.requires.0, c.if-left-gt0.false, waits)
-
-pub loop-x-preserved : goal.loop-x-preserved
-loop-x-preserved c = (together-due _ _ _ _ _ _ _ _ _ _ _ _ _ _ (together-stretch _ _ _ _ _ _ _ _ _ _ _ _ _ _ (together-note _ _ _ _ _ _ _ _ _ _ _ _ _ _ c.loop-x.invariant.0 _ _ _ _ _ _ _ _ c.note-e0.ensures c.note-e1.ensures c.note-e2.ensures c.note-e3.ensures) _ c.stretch-t.ensures) 0 (omega (arith, c.if-left-gt0.false)), c.note-e3.ensures.within.sized ∙ c.note-e2.ensures.within.sized ∙ c.note-e1.ensures.within.sized ∙ c.note-e0.ensures.within.sized ∙ c.loop-x.invariant.1)
+pub loop-pace-preserved : goal.loop-pace-preserved
+loop-pace-preserved c = let t = turn (goal.at.loop-pace-preserved c).After-stretch-t in (t.linked, omega arith, t.sized)

@@ -1,12 +1,10 @@
--- The invariant: the four chains are linked, an entry of each is due, and no place is lost. The measure is what is left of the stream.
-use Prim.Native.Nat.{◌-◌}
-use mathlib.Core.Path.{◌≡◌}
-use lib.ListN.{length}
-use Rattle.streams.specs.Chains.{Together}
+-- The invariant: the four chains are linked, an entry of each is due, and the parts are as long as they were. The measure is what is left of the stream.
+use Rattle.std.proofs.Common.{◌≡◌, ◌-◌, length}
+use Rattle.streams.specs.Chains.{Sized, Together}
 use Rattle.streams.proofs.chains.lockstep.Given as goal
 
-abbrev pub invariant-loop-x : goal.invariant-loop-x
-invariant-loop-x l = Together l.s l.x l.y l.z l.stride l.room l.places l.a l.b l.c l.d l.n l.k 0 × (length l.places ≡ length l.initial.places)
+abbrev pub invariant-loop-pace : goal.invariant-loop-pace
+invariant-loop-pace l = Together l.s l.fn.starts l.stride l.a l.b l.c l.d l.at l.pace × (l.pace.wait ≡ 0) × Sized l.initial.a l.initial.b l.initial.c l.initial.d l.a l.b l.c l.d
 
-abbrev pub decreases-loop-x : goal.decreases-loop-x
-decreases-loop-x l = length l.s - l.a
+abbrev pub decreases-loop-pace : goal.decreases-loop-pace
+decreases-loop-pace l = length l.s - l.at.a

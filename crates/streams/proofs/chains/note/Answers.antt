@@ -1,12 +1,13 @@
 -- The three cases: nothing due, no entry left, an entry noted.
-use Rattle.streams.proofs.Chained.{dued-later, dued-none, dued-now}
+use Rattle.std.proofs.Common.{arith}
+use Rattle.streams.proofs.Chained.{dued_later, dued_none, dued_now}
 use Rattle.streams.proofs.chains.note.Goals as goal
 
-pub returns-then-wait-gt0 : goal.returns-then-wait-gt0
-returns-then-wait-gt0 c = dued-later _ _ _ _ _ _ _ c.if-wait-gt0.true
+pub returns-then-pace-gt0 : goal.returns-then-pace-gt0
+returns-then-pace-gt0 c = dued_later _ _ _ _ (omega arith)
 
-pub returns-then-room-k : goal.returns-then-room-k
-returns-then-room-k c = dued-none _ _ _ _ _ _ _ c.if-wait-gt0.false c.if-room-k.true
+pub returns-then-part-pace : goal.returns-then-part-pace
+returns-then-part-pace c = dued_none _ _ _ _ (omega arith) (omega arith)
 
 pub returns : goal.returns
-returns c = dued-now _ _ _ _ _ _ _ c.if-wait-gt0.false c.if-room-k.false c.requires.1
+returns c = dued_now _ _ _ _ (omega arith) (omega arith)

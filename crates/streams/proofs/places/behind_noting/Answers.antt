@@ -1,40 +1,16 @@
-use mathlib.Core.Path.{sym, ◌∙◌}
-use native.Mathlib.Omega.{arith}
-use Rattle.streams.proofs.Noting.{noting-start, noting-note, noting-next, noting-done, noting-full, noting-beyond}
+use Rattle.std.proofs.Common.{sym, ◌∙◌, arith}
+use Rattle.std.proofs.lemmas.List.{set-get_or}
+use Rattle.streams.proofs.Noting.{noting_start, noting_done, noting_next, noting_beyond}
 use Rattle.streams.proofs.places.behind_noting.Goals as goal
 
-pub loop-left-init : goal.loop-left-init
-loop-left-init c = noting-start _ _ _ _ _ c.requires.1
+pub loop-place-init : goal.loop-place-init
+loop-place-init c = noting_start _ _ _ _ _ (omega arith)
 
-pub shape_of-places-then-places-k : goal.shape_of-places-then-places-k
-shape_of-places-then-places-k c = c.loop-left.invariant.notes.sized
+pub returns-then-left-eq0 : goal.returns-then-left-eq0
+returns-then-left-eq0 c = rw set-get_or (noting_done _ _ _ _ _ _ _ _ _ c.loop-place.invariant (omega arith))
 
-pub returns-then-places-k : goal.returns-then-places-k
-returns-then-places-k c = noting-full _ _ _ _ _ _ _ _ _ c.loop-left.invariant (omega (arith, c.if-places-k.true, c.loop-left.invariant.notes.sized)) _ c.behind_records.ensures
+pub returns-in_err-at : goal.returns-in_err-at
+returns-in_err-at c = rw c.from_residual.ensures (noting_beyond _ _ _ _ _ _ _ _ _ c.loop-place.invariant (omega arith) (omega arith) _ c.min-part.ensures (sym c.behind_records.ensures ∙ c.in_err-at.was))
 
-pub overflow_cast-places : goal.overflow_cast-places
-overflow_cast-places c = omega (arith, c.loop-left.invariant.low)
-
-pub shape_of-places-in_default : goal.shape_of-places-in_default
-shape_of-places-in_default c = (noting-note _ _ _ _ _ _ _ _ _ c.loop-left.invariant c.loop-left-test.true (omega (arith, c.if-places-k.false, c.loop-left.invariant.notes.sized))).sized
-
-pub returns-in_default : goal.returns-in_default
-returns-in_default c = noting-beyond _ _ _ _ _ _ _ _ _ c.loop-left.invariant c.loop-left-test.true (omega (arith, c.if-places-k.false, c.loop-left.invariant.notes.sized)) _ c.least-part.ensures (sym c.behind_records-in-loop-left.ensures ∙ c.in_default.is)
-
-pub overflow_sub-left : goal.overflow_sub-left
-overflow_sub-left c = omega (arith, c.least-part.ensures)
-
-pub overflow_add-k : goal.overflow_add-k
-overflow_add-k c = omega arith
-
-pub loop-left-smaller : goal.loop-left-smaller
-loop-left-smaller c = omega (arith, c.least-part.ensures, c.loop-left-test.true, c.requires.2)
-
-pub loop-left-preserved : goal.loop-left-preserved
-loop-left-preserved c = noting-next _ _ _ _ _ _ _ _ _ c.loop-left.invariant c.loop-left-test.true (omega (arith, c.if-places-k.false, c.loop-left.invariant.notes.sized)) _ _ c.least-part.ensures c.requires.0 (sym c.behind_records-in-loop-left.ensures ∙ c.in-At.is)
-
-pub shape_of-places : goal.shape_of-places
-shape_of-places c = c.loop-left.invariant.notes.sized
-
-pub returns : goal.returns
-returns c = noting-done _ _ _ _ _ _ _ _ _ c.loop-left.invariant c.loop-left-test.false
+pub loop-place-preserved : goal.loop-place-preserved
+loop-place-preserved c = noting_next _ _ _ _ _ _ _ _ _ c.loop-place.invariant (omega arith) (omega arith) _ _ c.min-part.ensures (omega arith) (sym c.behind_records.ensures ∙ c.in_ok-at.was)

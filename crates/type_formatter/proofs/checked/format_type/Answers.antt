@@ -6,4 +6,4 @@ use borrow.Author.Rules.{rules}
 use Rattle.type_formatter.proofs.checked.format_type.Goals as goal
 
 pub returns : goal.returns
-returns c = let e = (rw (c.numbers_of.ensures, c.places_behind.ensures) at c.type_over.ensures) in record { result_after = e; result_after_2 = λ k. e ∙ ap (laid _) (type-over _ _ k _ _ _ _) }
+returns c = let e = (rw (c.kept_lent-lent.ensures.types, c.kept_lent-lent.ensures.kept) at c.type_over.ensures) in record { result_after = e; result_after_2 = λ k. e ∙ ap (laid _) (type-over _ _ k _ _ _ _) }

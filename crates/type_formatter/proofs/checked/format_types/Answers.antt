@@ -6,4 +6,4 @@ use Rattle.batch.proofs.BatchLaws.{type-batch-kept, batch-goes-on}
 use Rattle.type_formatter.proofs.checked.format_types.Goals as goal
 
 pub returns : goal.returns
-returns c = let e = (rw (c.numbers_of-numbers.ensures, c.places_behind-places.ensures) at c.texts_over.ensures.result_after) in record { result_after = e; result_after_2 = λ k. e ∙ ap (laid_batch _ _) (type-batch-kept _ _ _ _ _ _ _ _ k); goes_on = batch-goes-on _ _ _ _ }
+returns c = let e = (rw (c.kept_lent-lent.ensures.types, c.kept_lent-lent.ensures.ids, c.kept_lent-lent.ensures.kept) at c.texts_over.ensures.result_after) in record { result_after = e; result_after_2 = λ k. e ∙ ap (laid_batch _ _) (type-batch-kept _ _ _ _ _ _ _ _ k); goes_on = batch-goes-on _ _ _ _ }

@@ -6,4 +6,4 @@ use borrow.Author.Rules.{rules}
 use Rattle.type_formatter.proofs.checked.print_sheet.Goals as goal
 
 pub returns : goal.returns
-returns c = let e = (rw (c.numbers_of-numbers.ensures, c.places_behind-places.ensures) at c.print_over.ensures.result_after) in record { result_after = e; result_after_2 = λ k. e ∙ ap (laid_out _) (fit-kept-of _ _ c.args.sheet.now _ k c.args.skip _); continues_over = (rw (c.numbers_of-numbers.ensures, c.places_behind-places.ensures) at c.print_over.ensures.continues_over) }
+returns c = let e = (rw (c.kept_lent-lent.ensures.types, c.kept_lent-lent.ensures.ids, c.kept_lent-lent.ensures.kept) at c.print_over.ensures.result_after) in record { result_after = e; result_after_2 = λ k. e ∙ ap (laid_out _) (fit-kept-of _ _ c.args.sheet.now _ k c.args.skip _); continues_over = (rw (c.kept_lent-lent.ensures.types, c.kept_lent-lent.ensures.ids, c.kept_lent-lent.ensures.kept) at c.print_over.ensures.continues_over) }

@@ -6,8 +6,8 @@ use Rattle.rules.proofs.PlacedCalls.{function-placed-demand}
 use borrow.Author.Rules.{rules}
 use Rattle.type_formatter.proofs.placed.format_function.Goals as goal
 
-pub returns-in-Right : goal.returns-in-Right
-returns-in-Right c = record { result_after = c.function_over.ensures ∙ ap (laid _) (function-lent _ _ _ (c.keep_lent-bounds.ensures c.args.types.now c.args.places.now c.check_placed-c.ensures.0) (sym c.check_placed-c.ensures.1 ∙ c.in-Right.is) _ _ _ _ _); function_placed_demand = function-placed-demand _ _ _ _ _ _ }
+pub returns-in-Ok : goal.returns-in-Ok
+returns-in-Ok c = record { result_after = c.function_over.ensures ∙ ap (laid _) (function-lent _ _ _ (c.keep_lent-bounds.ensures c.args.types.now c.args.places.now c.check_placed-c.ensures.0) (sym c.check_placed-c.ensures.1 ∙ c.in-Ok.is) _ _ _ _ _); function_placed_demand = function-placed-demand _ _ _ _ _ _ }
 
-pub returns-in-Wrong : goal.returns-in-Wrong
-returns-in-Wrong c = record { result_after = (rw c.check_call.ensures at c.refuse_place.ensures) ∙ ap (laid _) (function-unlent _ _ _ (c.keep_lent-bounds.ensures c.args.types.now c.args.places.now c.check_placed-c.ensures.0) _ (sym c.check_placed-c.ensures.1 ∙ c.in-Wrong.is) _ _ _ _ _); function_placed_demand = function-placed-demand _ _ _ _ _ _ }
+pub returns-in-Err : goal.returns-in-Err
+returns-in-Err c = record { result_after = (rw c.check_call.ensures at c.refuse_place.ensures) ∙ ap (laid _) (function-unlent _ _ _ (c.keep_lent-bounds.ensures c.args.types.now c.args.places.now c.check_placed-c.ensures.0) _ (sym c.check_placed-c.ensures.1 ∙ c.in-Err.is) _ _ _ _ _); function_placed_demand = function-placed-demand _ _ _ _ _ _ }

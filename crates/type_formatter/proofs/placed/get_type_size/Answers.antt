@@ -6,8 +6,8 @@ use Rattle.rules.proofs.PlacedCalls.{size-as-plain}
 use borrow.Author.Rules.{rules}
 use Rattle.type_formatter.proofs.placed.get_type_size.Goals as goal
 
-pub returns-in-Right : goal.returns-in-Right
-returns-in-Right c = record { result_value = c.size_over.ensures ∙ ap of_size (size-lent _ _ _ (c.keep_lent-bounds.ensures c.args.types.now c.args.places.now c.check_placed-c.ensures.0) (sym c.check_placed-c.ensures.1 ∙ c.in-Right.is) _ _); size_as_plain = size-as-plain _ _ _ _ }
+pub returns-in-Ok : goal.returns-in-Ok
+returns-in-Ok c = record { result_value = c.size_over.ensures ∙ ap of_size (size-lent _ _ _ (c.keep_lent-bounds.ensures c.args.types.now c.args.places.now c.check_placed-c.ensures.0) (sym c.check_placed-c.ensures.1 ∙ c.in-Ok.is) _ _); size_as_plain = size-as-plain _ _ _ _ }
 
-pub returns-in-Wrong : goal.returns-in-Wrong
-returns-in-Wrong c = record { result_value = (rw c.check_types.ensures at c.refuse_size.ensures) ∙ ap of_size (size-unlent _ _ _ (c.keep_lent-bounds.ensures c.args.types.now c.args.places.now c.check_placed-c.ensures.0) _ (sym c.check_placed-c.ensures.1 ∙ c.in-Wrong.is) _ _); size_as_plain = size-as-plain _ _ _ _ }
+pub returns-in-Err : goal.returns-in-Err
+returns-in-Err c = record { result_value = (rw c.check_types.ensures at c.refuse_size.ensures) ∙ ap of_size (size-unlent _ _ _ (c.keep_lent-bounds.ensures c.args.types.now c.args.places.now c.check_placed-c.ensures.0) _ (sym c.check_placed-c.ensures.1 ∙ c.in-Err.is) _ _); size_as_plain = size-as-plain _ _ _ _ }

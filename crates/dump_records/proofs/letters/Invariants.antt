@@ -1,5 +1,0 @@
--- The loop ends because the number of bytes that are left falls.
-use Rattle.dump_records.proofs.letters.Given as goal
-
-abbrev pub decreases-loop-left : goal.decreases-loop-left
-decreases-loop-left g l = l.left

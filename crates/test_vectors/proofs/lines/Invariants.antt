@@ -1,6 +1,0 @@
--- The loop ends because the index rises to the end.
-use Rattle.std.proofs.Common.{◌-◌}
-use Rattle.test_vectors.proofs.lines.Given as goal
-
-abbrev pub decreases-loop-index : goal.decreases-loop-index
-decreases-loop-index g l = l.end - l.index
