@@ -16,6 +16,7 @@ mod superblock;
 use container::Container;
 use damage::Damage;
 use superblock::blocks_for;
+use wire::bytes::{clear, copy};
 
 impl Container<'_> {
     // The bytes of `count` blocks, listed from a number of the directory on, of a stream of so many bytes.
@@ -31,7 +32,7 @@ impl Container<'_> {
         for j in first..first + count {
             let n = block.min(size - at);
             let start = self.number_at(j) as usize * block;
-            out[at..at + n].copy_from_slice(&self.file[start..start + n]);
+            copy(&mut out[at..at + n], &self.file[start..start + n]);
             at += n;
         }
     }
@@ -70,7 +71,7 @@ pub fn read_stream(file: &[u8], number: u32, out: &mut [u8]) -> Result<usize, Da
     match checked(file, number, out.len()) {
         Ok(container) => Ok(container.copy_stream(number, out)),
         Err(damage) => {
-            out.fill(0);
+            clear(out);
             Err(damage)
         }
     }

@@ -8,6 +8,7 @@ ghost use Rattle.interpreter.specs.Trace.{tr, refused, halted, long, count};
 ghost use Rattle.pen.specs.Page.{read_pen, page, read_page, put, unless_stopped, Wrote, last_since, resumed, refused_pen, missed_pen, unread_pen, writing, idle, unread_trace, Past, opened_pen};
 
 use streams::refusal::Refusal;
+use wire::bytes::copy;
 
 // How a pen has stopped.
 #[derive(Clone, Copy, PartialEq, Eq)]
@@ -137,7 +138,7 @@ pub fn text(out: &mut [u8], p: Pen, s: &[u8]) -> Pen
         if s.len() <= room(p) {
             let end = p.at + s.len();
             if end <= out.len() {
-                out[p.at..end].copy_from_slice(s);
+                copy(&mut out[p.at..end], s);
                 return past(p, end, b);
             }
             if out.len() <= p.at {

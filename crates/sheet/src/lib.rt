@@ -16,6 +16,7 @@ use codeview::index::{IdIndex, TypeIndex};
 use codeview::lent::Lent;
 use leaf_writers::names::name_of;
 use streams::refusal::Refusal;
+use wire::bytes::copy;
 use wire::name::Name;
 
 pub mod command;
@@ -179,11 +180,12 @@ fn put_bytes(out: &mut [u8], at: usize, bs: &[u8]) -> Option<usize>
         return None;
     }
     let end = at + n;
-    out[at..end].copy_from_slice(bs);
+    copy(&mut out[at..end], bs);
     Some(end)
 }
 
-// The line of a command, unless it was printed before or does not fit.
+// The line of a command, unless it was printed before or does not fit. In place at both calls, so that a line that is left out costs little.
+#[inline(always)]
 fn put_line(
     lent: &Lent,
     sheet: &[u8],

@@ -14,6 +14,7 @@ use checked_calls::answer::start;
 use leaf_writers::numbers::{decimal, decimal_in, hex};
 use pen::Pen;
 use streams::refusal::Refusal;
+use wire::bytes::copy;
 use wire::name::Name;
 
 // The fields before a text.
@@ -54,7 +55,7 @@ fn head_before(line: &mut [u8; 4124], number: u64) -> usize
     ensures { (result ≤ 20) × (drop result line.new ≡ (Text.decimal number ++ bytes " 0 0x0 ") ++ drop 27 line.old) }
 {
     let at = decimal_in(&mut line[0..20], number);
-    line[20..27].copy_from_slice(b" 0 0x0 ");
+    copy(&mut line[20..27], b" 0 0x0 ");
     at
 }
 

@@ -1,7 +1,10 @@
 -- Laws of fields, over the width. Assumes nothing.
-use Rattle.std.proofs.Common.{◌≡◌, ℕ, zero, suc, ◌+◌, ◌-◌, ◌≤◌, ◌<◌, ◌≢◌, Bool, true, false, leb, ltb, List, length, get_or, Option, Some, None, refl, sym, ◌∙◌, arith}
+use Rattle.std.proofs.Common.{◌≡◌, ℕ, zero, suc, ◌+◌, ◌-◌, ◌*◌, ◌^◌, ◌≤◌, ◌<◌, ◌≢◌, Bool, true, false, leb, ltb, List, length, get_or, Option, Some, None, refl, sym, ◌∙◌, arith}
 use Rattle.std.proofs.lemmas.Grind.{common_steps}
-use native.Mathlib.Nat.{le_refl, add-zero}
+use lib.ListN.{take, set}
+use lib.Seq.{take_all, take-suc, take-suc-set}
+use native.Mathlib.Numerals.{add-one}
+use native.Mathlib.Nat.{le_refl, add-zero, zero-add, suc-add, mul_assoc, pow-succ', pow-zero}
 use borrow.Author.Tests.{le-leb, lt-leb, lt-ltb, leb-true, ltb-true, ltb-false, ne_eqb}
 use Rattle.wire.specs.Name.{zero_from, zero_among, name_end, name, name_answer}
 use Rattle.wire.specs.Leaf.{payload, leaf, leaf_answer}
@@ -17,6 +20,14 @@ field_short width s at k z h = rw (lt-leb (at + width) (length s) h)
 pub field_long : {A : Type 0} (width : ℕ) (s : List ℕ) (at : ℕ) (inside : ℕ → A) (outside : A) (n : ℕ) → at + width ≤ length s → n ≡ number width s at → inside n ≡ field width s at inside outside
 unfolding field
 field_long width s at k z n h e = rw (le-leb (at + width) (length s) h, e)
+
+-- A field of two widths together is the first part and the second part above it.
+pub number-split : (v w : ℕ) (s : List ℕ) (at : ℕ) → number (v + w) s at ≡ number v s at + 256 ^ v * number w s (at + v)
+unfolding number
+number-split zero w s at = rw (zero-add w, add-zero at, pow-zero) (omega arith)
+number-split (suc v) w s at =
+    let e : at + 1 + v ≡ at + suc v = omega arith in
+    rw (suc-add v w, number, number-split v w s (at + 1), pow-succ' 256 v, mul_assoc 256 (256 ^ v) (number w s (at + suc v)), e) (omega arith)
 
 -- A test only picks, and a field only goes on or stops: a function of what follows is what follows with the function put on each answer.
 pub map-pick : {A B : Type 0} (f : A → B) (b : Bool) (x y : A) → f (pick b x y) ≡ pick b (f x) (f y)
@@ -112,3 +123,10 @@ module _ (o : ℕ → ℕ) (s : List ℕ) (at : ℕ) {r : Option Leaf} (e : r �
   pub unread_leaf : r ≡ None → {A : Type 0} (k : ℕ → ℕ → ℕ → A) (z : A) → leaf o s at k z ≡ z
   unfolding leaf field
   unread_leaf h k z = let q = simp payload_pick at (sym e ∙ h) in simp payload_pick (grind (arith, common_steps))
+
+-- Bytes over as many others: a turn of the copying, and what is copied when all of it is.
+pub copy-turn : (d s : List ℕ) (i : ℕ) → length d ≡ length s → i < length s → take i d ≡ take i s → take (i + 1) (set d i (get_or s i 0)) ≡ take (i + 1) s
+copy-turn d s i l h e = rw (add-one, take-suc-set d i (get_or s i 0) (omega arith), take-suc s i 0 h, e)
+
+pub copy-all : (d s : List ℕ) (i : ℕ) → length d ≡ length s → length s ≤ i → take i d ≡ take i s → d ≡ s
+copy-all d s i l h e = sym (take_all i d (omega arith)) ∙ e ∙ take_all i s h

@@ -11,5 +11,5 @@ loop-j-preserved c =
     let l = c.loop-j in
     let inside = listed_within file s c.args.first c.args.count l.j c.args.self.now.sound c.requires.listed (omega arith) (omega arith) in
     let p = block_copied file l.out c.args.out.now _ _ s l.j (c.args.first + c.args.count) l.at c.args.size (c.number_at.result * s.size) c.min-n.result
-    (omega arith) (omega arith) (rw c.number_at.ensures) (rw c.number_at.ensures inside) c.min-n.ensures c.copy_from_slice.ensures.after l.invariant.front l.invariant.rest in
+    (omega arith) (omega arith) (rw c.number_at.ensures) (rw c.number_at.ensures inside) c.min-n.ensures c.copy.ensures l.invariant.front l.invariant.rest in
     record { within = omega arith; front = p.0; rest = p.1 }
