@@ -397,30 +397,30 @@ module _ (s : List ℕ) (d : Lent) (call : Call) (o : List ℕ) where
   helper-other ls x n = rw (pointed-plain c s ls x n)
 
   -- An array: what its levels come to.
-  module _ {e size : ℕ} {r : Result ArrayInfo ArrayStop} (n : Info s d.near e size r) where
+  module _ {e size : ℕ} {r : ArrayInfo} (n : Info s d.near e size r) where
     abbrev later : Trace Refusal → Trace Refusal
     later x = prefix [] [] (count 0 n.taken) x
 
-    levels-are : {z : Result ArrayInfo ArrayStop} → r ≡ z → later (end_trace c t h s z) ≡ walked c t h (element e (size ∷ []))
-    levels-are f = ap (λ (z : Result ArrayInfo ArrayStop). later (end_trace c t h s z)) (sym f) ∙ n.is c d.ids h
+    levels-are : {z : Result TypeData ArrayStop} → r.holds ≡ z → later (end_trace c t h s (sizes_of r.sizes) r.base.0 z) ≡ walked c t h (element e (size ∷ []))
+    levels-are f = ap (λ (z : Result TypeData ArrayStop). later (end_trace c t h s (sizes_of r.sizes) r.base.0 z)) (sym f) ∙ n.is c d.ids h
 
-    pub array_long : (i : TypeIndex) → r ≡ Err (stop.TooLong i) → later (tr [] (halted (long i.0)) [] (count 0 0)) ≡ walked c t h (element e (size ∷ []))
+    pub array_long : (i : TypeIndex) → r.holds ≡ Err (stop.TooLong i) → later (tr [] (halted (long i.0)) [] (count 0 0)) ≡ walked c t h (element e (size ∷ []))
     unfolding end_trace
     array_long i f = levels-are f
 
-    pub array-bad : (a : Refusal) → r ≡ Err (stop.Refused a) → later (unread_trace a) ≡ walked c t h (element e (size ∷ []))
+    pub array-bad : (a : Refusal) → r.holds ≡ Err (stop.Refused a) → later (unread_trace a) ≡ walked c t h (element e (size ∷ []))
     unfolding end_trace
     array-bad a f = ap later (unread-is c t h a) ∙ levels-are f
 
-    base-is : {x : ArrayInfo} → r ≡ Ok x → later (ruled c t h (base_text c t x.base.0 (sizes_of x.sizes) (type_contents s x.holds))) ≡ walked c t h (element e (size ∷ []))
+    base-is : {x : TypeData} → r.holds ≡ Ok x → later (ruled c t h (base_text c t r.base.0 (sizes_of r.sizes) (type_contents s x))) ≡ walked c t h (element e (size ∷ []))
     unfolding end_trace
     base-is f = levels-are f
 
-    module _ {x : ArrayInfo} {z : Result ℕ TooLong} (f : r ≡ Ok x) (y : Sizes s d.near call x.base.0 0 z) where
+    module _ {x : TypeData} {z : Result ℕ TooLong} (f : r.holds ≡ Ok x) (y : Sizes s d.near call r.base.0 0 z) where
       abbrev text : Rule
-      text = texted (type_text c (type_contents s x.holds))
+      text = texted (type_text c (type_contents s x))
 
-      sized-is : later (asked (size_trace z y.taken) (λ v. ruled c t h (seq text (write (brackets (value_of v) (sizes_of x.sizes)))))) ≡ walked c t h (element e (size ∷ []))
+      sized-is : later (asked (size_trace z y.taken) (λ v. ruled c t h (seq text (write (brackets (value_of v) (sizes_of r.sizes)))))) ≡ walked c t h (element e (size ∷ []))
       unfolding ruled exec base_text
       sized-is = rw (y.is d.ids h) (base-is f)
 
@@ -428,7 +428,7 @@ module _ (s : List ℕ) (d : Lent) (call : Call) (o : List ℕ) where
       unfolding size_trace
       array-unsized g = let k : y.taken + 0 ≡ y.taken = omega arith in rw k (rw g at sized-is)
 
-      pub array-base : {v : ℕ} → z ≡ Ok v → later (prefix [] [] (count 0 y.taken) (ruled c t h text ⨾ writing (brackets v (sizes_of x.sizes)))) ≡ walked c t h (element e (size ∷ []))
+      pub array-base : {v : ℕ} → z ≡ Ok v → later (prefix [] [] (count 0 y.taken) (ruled c t h text ⨾ writing (brackets v (sizes_of r.sizes)))) ≡ walked c t h (element e (size ∷ []))
       unfolding ruled exec size_trace value_of ◌⨾◌
       array-base g = rw g at sized-is
 
@@ -559,7 +559,7 @@ pub arrayed_is : {x : TypeData} {p : ArrayType} → x ≡ type.Array p → array
 unfolding arrayed type_contents
 arrayed_is e = rw e
 
-pub arrayed_not : {x : ArrayInfo} {r : Result ArrayInfo ArrayStop} → r ≡ Ok x → end_arrayed r ≡ 0 → arrayed x.holds ≡ 0
+pub arrayed_not : {x : TypeData} {r : Result TypeData ArrayStop} → r ≡ Ok x → end_arrayed r ≡ 0 → arrayed x ≡ 0
 unfolding end_arrayed
 arrayed_not e f = rw e at f
 

@@ -265,8 +265,11 @@ fn emit_array(
     requires { left < 96 }
     ensures { Writes left seen.old seen.new (page out.old p) (λ o. walking lent.now.types.now (lent_in lent.now) call o (element x.element.0 (x.size ∷ []))) (page out.new result) }
 {
-    let info = match get_array_info(lent, x.element, x.size) {
-        Ok(info) => info,
+    let info = get_array_info(lent, x.element, x.size);
+    // Taken out at once: handed on out of `info` below, they would be copied twice.
+    let sizes = info.sizes;
+    let t = match info.holds {
+        Ok(t) => t,
         Err(ArrayStop::TooLong(index)) => return pen::too_long(out, p, index.0),
         Err(ArrayStop::Refused(f)) => return pen::unread(out, p, f),
     };
@@ -274,8 +277,8 @@ fn emit_array(
         Ok(size) => size,
         Err(TooLong(index)) => return pen::too_long(out, p, index),
     };
-    let q = base(lent, out, p, call, seen, left, info.holds);
-    emit_brackets(out, q, info.sizes, size)
+    let q = base(lent, out, p, call, seen, left, t);
+    emit_brackets(out, q, sizes, size)
 }
 
 // An array's base or what is under a modifier, with the text that `emit_type` has for it. A pointer and a modifier are gone on with at once, so that a row of

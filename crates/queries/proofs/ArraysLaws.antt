@@ -37,13 +37,17 @@ plain : {A : Type 0} (s : List ℕ) (t : TypeData) (f : ℕ → ℕ → A) (z : 
 unfolding type_contents
 plain s t f z n = search rules
 
+-- What an index comes to by its levels.
+abbrev trace_at : Settings → List ℕ → Near → Held → List ℕ → ArrayInfo → Trace Refusal
+trace_at c ids v h types r = end_trace c (table_in types (beside ids v)) h types (sizes_of r.sizes) r.base.0 r.holds
+
 -- Where the levels behind some sizes come to: after so many records that were taken up the end's trace is that of the element at the index, and the end is no array.
-record Ends (types : List ℕ) (v : Near) (sizes : List ℕ) (i : ℕ) (r : Result ArrayInfo ArrayStop) : Type 0 where
+record Ends (types : List ℕ) (v : Near) (sizes : List ℕ) (i : ℕ) (r : ArrayInfo) : Type 0 where
   taken : ℕ
   is : (c : Settings) (ids : List ℕ) (h : Held)
-      → prefix [] [] (count 0 taken) (end_trace c (table_in types (beside ids v)) h types r)
+      → prefix [] [] (count 0 taken) (trace_at c ids v h types r)
       ≡ walked c (table_in types (beside ids v)) h (element i sizes)
-  flat : end_arrayed r ≡ 0
+  flat : end_arrayed r.holds ≡ 0
 
 module _ (types : List ℕ) (v : Near) (i : ℕ) where
   abbrev q : Result TypeData Refusal
@@ -57,15 +61,15 @@ module _ (types : List ℕ) (v : Near) (i : ℕ) where
     unfolding walked ruled entry_of body table_in table_by
     through c ids h = let t = table_in types (beside ids v) in walk_through same_index (entry_of c t) (body c t) rank (ranked c t) h (element i sizes) refl
 
-    ends-here : (r : Result ArrayInfo ArrayStop) → ((c : Settings) (ids : List ℕ) (h : Held) → end_trace c (table_in types (beside ids v)) h types r ≡ step c ids h) → end_arrayed r ≡ 0 → Ends types v sizes i r
+    ends-here : (r : ArrayInfo) → ((c : Settings) (ids : List ℕ) (h : Held) → trace_at c ids v h types r ≡ step c ids h) → end_arrayed r.holds ≡ 0 → Ends types v sizes i r
     ends-here r e f = record { taken = 1; is = λ c ids h. ap (λ (t : Trace Refusal). prefix [] [] (count 0 1) t) (e c ids h) ∙ through c ids h; flat = f }
 
-    ends-later : (a : ArrayType) (r : Result ArrayInfo ArrayStop) → q ≡ Ok (type.Array a) → leb 32 (length sizes) ≡ false → Ends types v (a.size ∷ sizes) a.element.0 r → Ends types v sizes i r
+    ends-later : (a : ArrayType) (r : ArrayInfo) → q ≡ Ok (type.Array a) → leb 32 (length sizes) ≡ false → Ends types v (a.size ∷ sizes) a.element.0 r → Ends types v sizes i r
     unfolding ruled exec type_as_read type_contents element_text
     ends-later a r e b x =
         record {
           taken = 1 + x.taken;
-          is = λ c ids h. more (end_trace c (table_in types (beside ids v)) h types r) (x.is c ids h) ∙ rw (e, b) at (through c ids h);
+          is = λ c ids h. more (trace_at c ids v h types r) (x.is c ids h) ∙ rw (e, b) at (through c ids h);
           flat = x.flat;
         }
       where
@@ -73,26 +77,26 @@ module _ (types : List ℕ) (v : Near) (i : ℕ) where
         more (tr bs e ns c) g = let k : 1 + x.taken + c.taken ≡ 1 + (x.taken + c.taken) = omega arith in let l : 0 + c.opened ≡ 0 + (0 + c.opened) = omega arith in ap₂ (λ (i j : ℕ). tr bs e ns (count i j)) l k ∙ ap (λ (t : Trace Refusal). prefix [] [] (count 0 1) t) g
 
 module _ (types : List ℕ) (v : Near) where
-  ends-by : (sizes : Dimensions) (i : ℕ) (f : ℕ → ℕ → Result ArrayInfo ArrayStop)
+  ends-by : (sizes : Dimensions) (i : ℕ) (f : ℕ → ℕ → ArrayInfo)
       → ((a : ArrayType) → read_near types v i ≡ Ok (type.Array a) → Ends types v (sizes_of sizes) i (f a.element.0 a.size))
       → Ends types v (sizes_of sizes) i (behind_level types (read_near types v i) f (ended sizes i))
   unfolding behind_level end_trace end_arrayed arrayed type_as_read type_contents element_text
   ends-by sizes i f m = go (read_near types v i) refl
     where
-      by : (t : TypeData) → read_near types v i ≡ Ok t → (a : Option ArrayType) → as_array t ≡ a → Ends types v (sizes_of sizes) i (array_or (type_contents types t) f (ended sizes i t))
+      by : (t : TypeData) → read_near types v i ≡ Ok t → (a : Option ArrayType) → as_array t ≡ a → Ends types v (sizes_of sizes) i (array_or (type_contents types t) f (ended sizes i (Ok t)))
       by t e (Some a) k = let w : t ≡ type.Array a = search rules in rw w (m a (rw w at e))
       by t e None k =
           let p : Plain t = search rules in
-          rw (plain types t f (ended sizes i t) p) (ends-here types v i (sizes_of sizes) (ended sizes i t) (λ c ids h. rw (e, plain types t _ _ p)) (plain [] t _ _ p))
+          rw (plain types t f (ended sizes i (Ok t)) p) (ends-here types v i (sizes_of sizes) (ended sizes i (Ok t)) (λ c ids h. rw (e, plain types t _ _ p)) (plain [] t _ _ p))
 
       go : (q : Result TypeData Refusal) → read_near types v i ≡ q → Ends types v (sizes_of sizes) i (behind_level types q f (ended sizes i))
       go (Ok t) e = by t e (as_array t) refl
-      go (Err x) e = ends-here types v i (sizes_of sizes) (Err (stop.Refused x)) (λ c ids h. rw e) refl
+      go (Err x) e = ends-here types v i (sizes_of sizes) (ended sizes i (Err (stop.Refused x))) (λ c ids h. rw e) refl
 
   -- The levels come to an end, in whatever number they are.
   ends-from : (n : ℕ) (sizes : Dimensions) (i : ℕ) → sizes.left ≡ n → length sizes.items ≡ 32 → n ≤ 32 → Ends types v (sizes_of sizes) i (levels_from types v n sizes i)
   unfolding levels_from end_trace end_arrayed ruled exec type_as_read type_contents element_text
-  ends-from zero sizes i l k m = ends-by sizes i _ (λ a g. ends-here types v i (sizes_of sizes) (Err (stop.TooLong (type_index i))) (λ c ids h. rw (g, room-is sizes k ∙ eq-eqb _ _ l)) refl)
+  ends-from zero sizes i l k m = ends-by sizes i _ (λ a g. ends-here types v i (sizes_of sizes) (ended sizes i (Err (stop.TooLong (type_index i)))) (λ c ids h. rw (g, room-is sizes k ∙ eq-eqb _ _ l)) refl)
   ends-from (suc n) sizes i l k m =
       let o : sizes.left ≡ 0 → ⊥ = λ z. omega arith in
       ends-by sizes i _ (λ a g.
@@ -100,7 +104,7 @@ module _ (types : List ℕ) (v : Near) where
       ends-later types v i (sizes_of sizes) a _ g (room-is sizes k ∙ ne_eqb _ _ o) (rw (pushed-sizes sizes a.size (omega arith) (omega arith)) at x))
 
 -- What follows of the answer.
-pub info : (types : List ℕ) (v : Near) (e size : ℕ) (r : Result ArrayInfo ArrayStop) → r ≡ array_info types v e size → Info types v e size r
+pub info : (types : List ℕ) (v : Near) (e size : ℕ) (r : ArrayInfo) → r ≡ array_info types v e size → Info types v e size r
 unfolding array_info no_dimensions pushed_dimension sizes_of
 info types v e size r k =
     let x : Ends types v (size ∷ []) e (array_info types v e size) = ends-from types v 31 (pushed_dimension no_dimensions size) e refl refl (omega arith) in
@@ -108,22 +112,22 @@ info types v e size r k =
 
 -- What the loop answers by what is read at the index, and a level more.
 levels-at : (types : List ℕ) (v : Near) (n : ℕ) (sizes : Dimensions) (i : ℕ) → levels_from types v n sizes i
-    ≡ behind_level types (read_near types v i) (λ e bytes. pick (eqb n 0) (Err (stop.TooLong (type_index i))) (levels_from types v (n - 1) (pushed_dimension sizes bytes) e)) (ended sizes i)
+    ≡ behind_level types (read_near types v i) (λ e bytes. pick (eqb n 0) (ended sizes i (Err (stop.TooLong (type_index i)))) (levels_from types v (n - 1) (pushed_dimension sizes bytes) e)) (ended sizes i)
 unfolding levels_from
 levels-at types v zero sizes i = refl
 levels-at types v (suc n) sizes i = let k : suc n - 1 ≡ n = omega arith in rw (k, eqb-suc-zero n)
 
 module _ (types : List ℕ) (v : Near) (e size n : ℕ) (sizes : Dimensions) (i : ℕ) (same : levels_from types v n sizes i ≡ array_info types v e size) where
-  pub levels-end : (t : TypeData) → read_near types v i ≡ Ok t → Plain t → Info types v e size (ended sizes i t)
+  pub levels-end : (t : TypeData) → read_near types v i ≡ Ok t → Plain t → Info types v e size (ended sizes i (Ok t))
   unfolding behind_level
   levels-end t k p = info types v e size _ (rw (← same, levels-at, k, plain types t _ _ p))
 
-  pub levels-unread : (f : Refusal) → read_near types v i ≡ Err f → (r : Result ArrayInfo ArrayStop) → r ≡ Err (stop.Refused f) → Info types v e size r
+  pub levels-unread : (f : Refusal) → read_near types v i ≡ Err f → (r : Result TypeData ArrayStop) → r ≡ Err (stop.Refused f) → Info types v e size (ended sizes i r)
   unfolding behind_level
-  levels-unread f k r h = info types v e size r (rw (← same, levels-at, k) h)
+  levels-unread f k r h = info types v e size _ (rw (← same, levels-at, k, h))
 
   module _ (a : ArrayType) (k : read_near types v i ≡ Ok (type.Array a)) where
-    pub levels-long : n ≡ 0 → Info types v e size (Err (stop.TooLong (type_index i)))
+    pub levels-long : n ≡ 0 → Info types v e size (ended sizes i (Err (stop.TooLong (type_index i))))
     unfolding behind_level type_contents
     levels-long z = info types v e size _ (rw (← same, levels-at, k, eq-eqb _ _ z))
 

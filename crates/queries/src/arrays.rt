@@ -25,16 +25,16 @@ impl From<Refusal> for ArrayStop {
     }
 }
 
-// The byte sizes of the levels, the index behind the last of them, and what that is.
+// The byte sizes of the levels, the index behind the last of them, and what that is or why there is no base: where they stop the levels stand too.
 #[derive(Clone, Copy)]
 pub struct ArrayInfo {
     pub sizes: Dimensions,
     pub base: TypeIndex,
-    pub holds: TypeData,
+    pub holds: Result<TypeData, ArrayStop>,
 }
 
 // One loop and no recursion, so that the stack stays small.
-pub fn get_array_info(lent: &Lent, element: TypeIndex, size: u64) -> Result<ArrayInfo, ArrayStop>
+pub fn get_array_info(lent: &Lent, element: TypeIndex, size: u64) -> ArrayInfo
     ensures { Info lent.now.types.now (near_in lent.now) element.0 size result }
 {
     // Kept: a stack of fixed memory with the place of its newest, since nothing may be allocated.
@@ -43,16 +43,29 @@ pub fn get_array_info(lent: &Lent, element: TypeIndex, size: u64) -> Result<Arra
     items[31] = size;
     let mut base = element;
     loop {
-        let t = lent.type_at(base)?;
+        let t = match lent.type_at(base) {
+            Ok(t) => t,
+            Err(f) => {
+                return ArrayInfo {
+                    sizes: Dimensions { items, left },
+                    base,
+                    holds: Err(ArrayStop::from(f)),
+                };
+            }
+        };
         let TypeData::Array(a) = t else {
-            return Ok(ArrayInfo {
+            return ArrayInfo {
                 sizes: Dimensions { items, left },
                 base,
-                holds: t,
-            });
+                holds: Ok(t),
+            };
         };
         if left == 0 {
-            return Err(ArrayStop::TooLong(base));
+            return ArrayInfo {
+                sizes: Dimensions { items, left },
+                base,
+                holds: Err(ArrayStop::TooLong(base)),
+            };
         }
         left -= 1;
         items[left] = a.size;

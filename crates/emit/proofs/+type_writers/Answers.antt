@@ -36,16 +36,16 @@ pub emit_arg_list-returns-then-is_idle : goal.emit_arg_list-returns-then-is_idle
 emit_arg_list-returns-then-is_idle t c = record { wrote = rest-idle c.loop-i.invariant.4 (cc); kept = c.loop-i.invariant.3 }
 
 pub emit_array-returns : goal.emit_array-returns
-emit_array-returns t c = writes-by (writes_later c.get_array_info.ensures.taken (writes_later c.get_type_size.ensures.taken (c.base-q.ensures ▸▸ plain c.emit_brackets.ensures))) (array-base _ _ _ _ c.get_array_info.ensures c.in-Ok.is c.get_type_size.ensures c.in-Ok-get_type_size.is)
+emit_array-returns t c = writes-by (writes_later c.get_array_info-info.ensures.taken (writes_later c.get_type_size.ensures.taken (c.base-q.ensures ▸▸ plain c.emit_brackets.ensures))) (array-base _ _ _ _ c.get_array_info-info.ensures c.in-Ok.is c.get_type_size.ensures c.in-Ok-get_type_size.is)
 
 pub emit_array-returns-in-Err : goal.emit_array-returns-in-Err
-emit_array-returns-in-Err t c = writes-by (writes_later c.get_array_info.ensures.taken (writes_later c.get_type_size.ensures.taken (plain c.too_long-in-Err.ensures))) (array-unsized _ _ _ _ c.get_array_info.ensures c.in-Ok.is c.get_type_size.ensures c.in-Err.is)
+emit_array-returns-in-Err t c = writes-by (writes_later c.get_array_info-info.ensures.taken (writes_later c.get_type_size.ensures.taken (plain c.too_long-in-Err.ensures))) (array-unsized _ _ _ _ c.get_array_info-info.ensures c.in-Ok.is c.get_type_size.ensures c.in-Err.is)
 
 pub emit_array-returns-in-Err-Refused : goal.emit_array-returns-in-Err-Refused
-emit_array-returns-in-Err-Refused t c = writes-by (writes_later c.get_array_info.ensures.taken (plain c.unread.ensures)) (array-bad _ _ _ _ c.get_array_info.ensures _ (search (c.in-Err-Refused.is, rules)))
+emit_array-returns-in-Err-Refused t c = writes-by (writes_later c.get_array_info-info.ensures.taken (plain c.unread.ensures)) (array-bad _ _ _ _ c.get_array_info-info.ensures _ (search (c.in-Err-Refused.is, rules)))
 
 pub emit_array-returns-in-Err-TooLong : goal.emit_array-returns-in-Err-TooLong
-emit_array-returns-in-Err-TooLong t c = writes-by (writes_later c.get_array_info.ensures.taken (plain c.too_long.ensures)) (array_long _ _ _ _ c.get_array_info.ensures _ (search (c.in-Err-TooLong.is, rules)))
+emit_array-returns-in-Err-TooLong t c = writes-by (writes_later c.get_array_info-info.ensures.taken (plain c.too_long.ensures)) (array_long _ _ _ _ c.get_array_info-info.ensures _ (search (c.in-Err-TooLong.is, rules)))
 
 pub emit_member_ptr-returns : goal.emit_member_ptr-returns
 emit_member_ptr-returns t c = writes-by (c.emit_return_type-a.ensures ▸▸ plain c.text-b.ensures ▸▸ c.emit_type_index-c.ensures ▸▸ plain c.emit_attributes-d.ensures ▸▸ plain c.text-e.ensures ▸▸ c.emit_method_args.ensures) (member-ptr-is _ _ _ _ (method_of c.args.m))

@@ -8,8 +8,8 @@ pub loop-t-init : goal.loop-t-init
 unfolding array_info no_dimensions pushed_dimension
 loop-t-init c = search rules
 
-pub returns-in_err-t : goal.returns-in_err-t
-returns-in_err-t c = levels-unread _ _ _ _ _ _ _ c.loop-t.invariant.same c.in_err-t.field-0.0 (search rules) _ (search rules)
+pub returns-in-Err : goal.returns-in-Err
+returns-in-Err c = levels-unread _ _ _ _ _ _ _ c.loop-t.invariant.same c.in-Err.f (search rules) _ (search rules)
 
 pub returns-in_default : goal.returns-in_default
 returns-in_default c = levels-end _ _ _ _ _ _ _ c.loop-t.invariant.same _ (search rules) c.in_default.not-Array
