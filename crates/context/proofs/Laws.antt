@@ -110,9 +110,9 @@ module _ (p : Pen) (list : List ℕ) (left : ℕ) (w : Way) (i : ℕ) where
   unfolding opens_to
   opens-idle a = rw a
 
-  module _ (a : idle (read_pen p).stop ≡ false) (n : length list ≡ 96) (b : Bool) (e : b ≡ list_any (λ x. eqb (x % 4_294_967_296) i) (take (96 - left) (drop left list))) where
+  module _ (a : idle (read_pen p).stop ≡ false) (b : Bool) (e : b ≡ list_any (λ x. eqb (x % 4_294_967_296) i) (take (length list - left) (drop left list))) where
     among : has_index i (keys_of (drop left list)) ≡ b
-    among = let k : length (drop left list) ≤ 96 - left = simp length-drop (omega arith) in sym (any-has (drop left list) i) ∙ sym (rw (take_all (96 - left) (drop left list) k) at e)
+    among = let k : length (drop left list) ≤ length list - left = simp length-drop (omega arith) in sym (any-has (drop left list) i) ∙ sym (rw (take_all (length list - left) (drop left list) k) at e)
 
     pub opens-again : (q : Pen) → b ≡ true → q ≡ refused_pen p (CircularTypeDefinition i) → leaves list q ≡ opens_to p list left w i
     unfolding opens_to

@@ -1,7 +1,7 @@
 // The indexes that are open, and the one opening of an index: what is tested, noted and counted then. An open index and the way it came are packed in one
 // number. One list of 96 is lent to all writers: the open ones lie from `left` to its end, the newest first. An opening is written right below them, and
 // what is called is lent the list with the new `left`: nothing is copied, and nothing is taken back when a writer ends.
-ghost use Rattle.std.specs.Prelude.{◌≡◌, ◌%◌, ◌≤◌, eqb};
+ghost use Rattle.std.specs.Prelude.{◌≡◌, ◌%◌, ◌≤◌, length, eqb};
 ghost use Rattle.std.specs.List.{list_any};
 ghost use Rattle.context.specs.Opening.{noted, Opens};
 
@@ -38,8 +38,8 @@ fn noted(way: Way, index: u32) -> u64
 
 // Opens an index in a list, where those from `left` on are open: it is written right below them, and the pen counts it. Or nothing is opened and the
 // pen has stopped: with 12 where the index is open, with 13 where the list has no room for one more.
-pub fn open_index(p: Pen, seen: &mut [u64; 96], left: usize, way: Way, index: TypeIndex) -> Pen
-    requires { left ≤ 96 }
+pub fn open_index(p: Pen, seen: &mut [u64], left: usize, way: Way, index: TypeIndex) -> Pen
+    requires { left ≤ length seen.old }
     ensures { Opens p seen.old left way index.0 seen.new result }
 {
     if pen::is_idle(p) {

@@ -7,10 +7,10 @@ pub returns-then-is_idle : goal.returns-then-is_idle
 returns-then-is_idle c = record { is = opens-idle _ _ _ _ _ (cc); small = omega arith }
 
 pub returns-then-has : goal.returns-then-has
-returns-then-has c = record { is = opens-again c.args.p c.args.seen.now c.args.left c.args.way c.args.index.0 (cc) c.told-seen _ c.has.ensures _ c.if-has.true c.stopped.ensures; small = omega (arith, c.well_formed) }
+returns-then-has c = record { is = opens-again c.args.p c.args.seen.now c.args.left c.args.way c.args.index.0 (cc) _ c.has.ensures _ c.if-has.true c.stopped.ensures; small = omega (arith, c.well_formed) }
 
 pub returns-then-left-eq0 : goal.returns-then-left-eq0
-returns-then-left-eq0 c = record { is = opens-full c.args.p c.args.seen.now c.args.left c.args.way c.args.index.0 (cc) c.told-seen _ c.has.ensures _ c.if-has.false c.if-left-eq0.true c.stopped-then-left-eq0.ensures; small = omega (arith, c.well_formed) }
+returns-then-left-eq0 c = record { is = opens-full c.args.p c.args.seen.now c.args.left c.args.way c.args.index.0 (cc) _ c.has.ensures _ c.if-has.false c.if-left-eq0.true c.stopped-then-left-eq0.ensures; small = omega (arith, c.well_formed) }
 
 pub returns : goal.returns
-returns c = record { is = opens_in c.args.p c.args.seen.now c.args.left c.args.way c.args.index.0 (cc) c.told-seen _ c.has.ensures _ _ c.if-has.false c.if-left-eq0.false c.noted.ensures c.opened.ensures; small = omega (arith, c.well_formed) }
+returns c = record { is = opens_in c.args.p c.args.seen.now c.args.left c.args.way c.args.index.0 (cc) _ c.has.ensures _ _ c.if-has.false c.if-left-eq0.false c.noted.ensures c.opened.ensures; small = omega (arith, c.well_formed) }
