@@ -117,6 +117,10 @@ module _ (s : List ℕ) (starts : Four) (stride : ℕ) where
       same : (q : List ℕ) (u : Pace) → length d ≡ length q → u ≡ due_next (length q) stride p → h ≡ u
       same q u i j = w.is ∙ rw i (sym j)
 
+-- What is right of a part's entries is right of any that are the same.
+pub run-frame : (s : List ℕ) (from stride room base c : ℕ) (ps qs : List ℕ) → ((i : ℕ) → i < room → get_or qs (base + i) 0 ≡ get_or ps (base + i) 0) → RightRun s from c stride room base ps → RightRun s from c stride room base qs
+run-frame s from stride room base c ps qs f r i h m = rw (f i h) (r i h m)
+
 -- A chain's marks are right in the whole.
 chain-right : (l : Spacing) (ps s : List ℕ) (off first from c n : ℕ) → passed first s 56 Some None ≡ Some from → RightRun s from c l.stride l.room off ps → 0 < l.room → first ≤ n → n < first + c → passed (mark_in l ps off first n).number s 56 Some None ≡ Some (mark_in l ps off first n).place
 unfolding mark_in passed
@@ -140,13 +144,13 @@ module _ (s : List ℕ) (x y z n₀ n₁ n₂ n₃ : ℕ)
   to-z : passed (n₀ + n₁ + n₂) s 56 Some None ≡ Some z
   to-z = passed-from (n₀ + n₁) n₂ s 56 y to-y Some None ∙ c
 
-  chains-tile : tiled (n₀ + n₁ + n₂ + n₃) s ≡ true
+  pub chains-tile : tiled (n₀ + n₁ + n₂ + n₃) s ≡ true
   unfolding tiled
   chains-tile =
       passed-at (n₀ + n₁ + n₂ + n₃) s 56 refl (length s) (passed-from (n₀ + n₁ + n₂) n₃ s 56 z to-z Some None ∙ d) (λ at. eqb at (length s)) false
       ∙ eq-eqb (length s) (length s) refl
 
-  chains-right : (stride room : ℕ) (ps : List ℕ) → 0 < room → RightRun s 56 n₀ stride room 0 ps → RightRun s x n₁ stride room room ps → RightRun s y n₂ stride room (2 * room) ps → RightRun s z n₃ stride room (3 * room) ps → RightMarks (quartered stride room n₀ n₁ n₂) ps (n₀ + n₁ + n₂ + n₃) s
+  pub chains-right : (stride room : ℕ) (ps : List ℕ) → 0 < room → RightRun s 56 n₀ stride room 0 ps → RightRun s x n₁ stride room room ps → RightRun s y n₂ stride room (2 * room) ps → RightRun s z n₃ stride room (3 * room) ps → RightMarks (quartered stride room n₀ n₁ n₂) ps (n₀ + n₁ + n₂ + n₃) s
   unfolding mark_by passed
   chains-right stride room ps h r₀ r₁ r₂ r₃ n i = go (ltb n n₀) (ltb n (n₀ + n₁)) (ltb n (n₀ + n₁ + n₂)) refl refl refl
     where

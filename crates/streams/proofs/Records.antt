@@ -44,6 +44,15 @@ out : {A : Type 0} (s : List ℕ) (at : ℕ) (k : ℕ → A) (z : A) → length 
 unfolding behind field
 out s at k z h = grind arith
 
+-- Nor where a length is less than two.
+pub behind-short : {A : Type 0} (s : List ℕ) (at : ℕ) (k : ℕ → A) (z : A) → number 2 s at < 2 → behind s at k z ≡ z
+unfolding behind field
+behind-short s at k z h = rw (lt-leb 2 (number 2 s at) h) (go (leb (at + 2) (length s)))
+  where
+    go : (a : Bool) → pick a z z ≡ z
+    go true = refl
+    go false = refl
+
 record_out : {A : Type 0} (s : List ℕ) (at : ℕ) → length s < at + 4 → (f : ℕ → ℕ → ℕ → A) (m : A) → record_at s at f m ≡ m
 unfolding record_at
 record_out s at h f m = out s at _ m h

@@ -26,12 +26,19 @@ fn start_of(which: StreamKind) -> usize
     }
 }
 
-// The bounds of a stream.
+// The bounds of a stream. The numbers are all there but in a buffer that is too short, so one test serves them all.
 #[tactic(auto, unfolding(crate::specs::Bounds::stream_in))]
 pub fn stream_in(bounds: &[u32], which: StreamKind) -> Stream
     ensures { result ≡ stream_in bounds.now which }
 {
     let k = start_of(which);
+    if k + 9 <= bounds.len() {
+        return Stream {
+            first: bounds[k + 1],
+            end: bounds[k + 2],
+            stop: bounds[k + 3] as usize,
+        };
+    }
     Stream {
         first: number_at(bounds, k + 1),
         end: number_at(bounds, k + 2),
@@ -45,6 +52,15 @@ pub fn spacing_in(bounds: &[u32], which: StreamKind) -> Spacing
     ensures { result ≡ spacing_in bounds.now which }
 {
     let k = start_of(which);
+    if k + 9 <= bounds.len() {
+        return Spacing {
+            stride: bounds[k + 4],
+            room: bounds[k + 5],
+            second: bounds[k + 6],
+            third: bounds[k + 7],
+            fourth: bounds[k + 8],
+        };
+    }
     Spacing {
         stride: number_at(bounds, k + 4),
         room: number_at(bounds, k + 5),

@@ -126,6 +126,7 @@ fn two_heads(s: &[u8], at: usize) -> bool
 // A place where two likely heads follow each other, not far behind another. Records mostly start at a multiple of four.
 pub fn near_heads(s: &[u8], from: usize, reach: usize) -> Option<usize>
     requires { (length s.now < 0x1000_0000) × (4 ≤ length s.now) × (from < 0x1000_0000) × (reach < 0x1000_0000) }
+    ensures { IfSome result (λ at. at ≤ length s.now) }
 {
     for at in (from..(from + reach).min(s.len() - 4)).step_by(4) {
         if two_heads(s, at) {
