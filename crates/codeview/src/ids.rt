@@ -2,7 +2,7 @@
 #![tactic(auto, using(crate::proofs::Laws::reads), unfolding(wire::specs::Field::field, crate::specs::IdRecord::function_parts, crate::specs::IdRecord::function_id_of, crate::specs::IdRecord::member_function_id_of, crate::specs::IdRecord::string_list_of, crate::specs::IdRecord::string_of, crate::specs::Record::entries))]
 
 ghost use Rattle.std.specs.Prelude.{◌≡◌};
-ghost use Rattle.codeview.specs.IdRecord.{function_id_of, member_function_id_of, string_list_of, string_of, id_data_of};
+ghost use Rattle.codeview.specs.IdRecord.{function_parts, function_id_of, member_function_id_of, string_list_of, string_of, id_data_of};
 ghost use Rattle.codeview.specs.Read.{read_id_in};
 ghost use Rattle.streams.specs.declared.refusal.Refusal.TheVariants.{Malformed};
 
@@ -12,26 +12,35 @@ use crate::kinds::*;
 use crate::record::{FunctionId, IdData, MemberFunctionId, StringId};
 use streams::bounds::look_up_in;
 use streams::refusal::{Refusal, StreamKind};
+use wire::name::Name;
+
+// What the ids of functions and of member functions say in the same places: whose function it is, the function's type, and its name.
+fn function_parts(f: &Fields<'_>) -> Result<(u32, u32, Name), Refusal>
+    ensures { result ≡ function_parts f.now.base f.now.bytes.now (λ owner function n. Ok (owner, function, n)) (Err (Malformed f.now.index)) }
+{
+    f.fixed(8)?;
+    Ok((f.number(0), f.number(4), f.name_at(8)?))
+}
 
 fn function_id(f: &Fields<'_>) -> Result<IdData, Refusal>
     ensures { result ≡ function_id_of (Err (Malformed f.now.index)) f.now.base f.now.bytes.now }
 {
-    f.fixed(8)?;
+    let (owner, function, name) = function_parts(f)?;
     Ok(IdData::Function(FunctionId {
-        scope: IdIndex(f.number(0)),
-        function: TypeIndex(f.number(4)),
-        name: f.name_at(8)?,
+        scope: IdIndex(owner),
+        function: TypeIndex(function),
+        name,
     }))
 }
 
 fn member_function_id(f: &Fields<'_>) -> Result<IdData, Refusal>
     ensures { result ≡ member_function_id_of (Err (Malformed f.now.index)) f.now.base f.now.bytes.now }
 {
-    f.fixed(8)?;
+    let (owner, function, name) = function_parts(f)?;
     Ok(IdData::MemberFunction(MemberFunctionId {
-        parent: TypeIndex(f.number(0)),
-        function: TypeIndex(f.number(4)),
-        name: f.name_at(8)?,
+        parent: TypeIndex(owner),
+        function: TypeIndex(function),
+        name,
     }))
 }
 

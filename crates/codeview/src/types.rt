@@ -122,6 +122,7 @@ fn array(f: &Fields<'_>) -> Result<TypeData, Refusal>
     }))
 }
 
+#[inline(always)]
 pub fn class(f: &Fields<'_>, kind: ClassKind) -> Result<TypeData, Refusal>
     ensures { result ≡ class_of (Err (Malformed f.now.index)) f.now.base kind f.now.bytes.now }
 {
@@ -142,6 +143,7 @@ pub fn class(f: &Fields<'_>, kind: ClassKind) -> Result<TypeData, Refusal>
     }))
 }
 
+#[inline(always)]
 pub fn union_type(f: &Fields<'_>) -> Result<TypeData, Refusal>
     ensures { result ≡ union_of (Err (Malformed f.now.index)) f.now.base f.now.bytes.now }
 {
@@ -175,6 +177,19 @@ fn enumeration(f: &Fields<'_>) -> Result<TypeData, Refusal>
     }))
 }
 
+// A class and a union, out of the way of the kinds that are met more. (The scan for a forward reference takes of them what it wants, and has them in place.)
+fn class_apart(f: &Fields<'_>, kind: ClassKind) -> Result<TypeData, Refusal>
+    ensures { result ≡ class_of (Err (Malformed f.now.index)) f.now.base kind f.now.bytes.now }
+{
+    class(f, kind)
+}
+
+fn union_apart(f: &Fields<'_>) -> Result<TypeData, Refusal>
+    ensures { result ≡ union_of (Err (Malformed f.now.index)) f.now.base f.now.bytes.now }
+{
+    union_type(f)
+}
+
 // A record of the type stream, by its kind.
 #[tactic(auto, unfolding(crate::specs::Record::type_of))]
 fn decode_type(f: &Fields<'_>, kind: u16) -> Result<TypeData, Refusal>
@@ -188,10 +203,10 @@ fn decode_type(f: &Fields<'_>, kind: u16) -> Result<TypeData, Refusal>
         LF_ARGLIST => argument_list(f),
         LF_ENUMERATE => enumerate(f),
         LF_ARRAY => array(f),
-        LF_CLASS => class(f, ClassKind::Class),
-        LF_STRUCTURE => class(f, ClassKind::Struct),
-        LF_INTERFACE => class(f, ClassKind::Interface),
-        LF_UNION => union_type(f),
+        LF_CLASS => class_apart(f, ClassKind::Class),
+        LF_STRUCTURE => class_apart(f, ClassKind::Struct),
+        LF_INTERFACE => class_apart(f, ClassKind::Interface),
+        LF_UNION => union_apart(f),
         LF_ENUM => enumeration(f),
         LF_FIELDLIST | LF_BITFIELD | LF_METHODLIST => Ok(TypeData::Unhandled(kind)),
         _ => Err(Refusal::UnlistedKind(u32::from(kind))),

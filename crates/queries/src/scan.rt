@@ -102,6 +102,7 @@ struct Scan<'a> {
 
 impl<'a> Scan<'a> {
     // The size of a class or union that is full and has the name.
+    #[inline(always)]
     #[tactic(auto, using(crate::proofs::FullLaws::equal_bytes))]
     fn of_layout(&self, l: Layout) -> Option<u64>
         ensures { FullLayout l.forward l.size (match_name self.now.types.now l.name l.unique) self.now.name.now result }
@@ -110,6 +111,7 @@ impl<'a> Scan<'a> {
     }
 
     // What was read of a record says.
+    #[inline(always)]
     #[tactic(auto, unfolding(rules::specs::Record::type_as_read, rules::specs::Record::type_contents, rules::specs::Sizes::full_or, rules::specs::Sizes::full_named, rules::specs::Sizes::full_layout))]
     fn of_read(&self, t: Result<TypeData, Refusal>) -> Option<u64>
         ensures { FullOf self.now.types.now t self.now.name.now result }
