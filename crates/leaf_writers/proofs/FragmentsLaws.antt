@@ -1,7 +1,10 @@
--- The law of the records that a text names by no word of their own. Assumes nothing.
-use Prim.Native.Nat.{ℕ}
+-- The laws of the records that a text names by no word of their own, and of numbers past the end. Assumes nothing.
+use Prim.Native.Nat.{ℕ, zero, suc, ◌+◌, ◌≤◌}
 use mathlib.Core.Path.{◌≡◌, refl}
 use mathlib.Core.List.{List, []}
+use lib.ListN.{length, get_or-eq_default}
+use native.Mathlib.Omega.{arith}
+use Rattle.wire.specs.Field.{number}
 use Rattle.codeview.specs.declared.record.ClassType.{ClassType}
 use Rattle.codeview.specs.declared.record.UnionType.{UnionType}
 use Rattle.codeview.specs.declared.record.EnumerationType.{EnumerationType}
@@ -23,3 +26,9 @@ record-none c s (type.Enumeration x) h i j k l = absurd (j x refl)
 record-none c s (type.Enumerate x) h i j k l = absurd (k x refl)
 record-none c s (type.Unhandled n) h i j k l = absurd (l n refl)
 record-none c s t h i j k l = refl
+
+-- Bytes past the end count as zeros, and so does a number made of them.
+pub number_past : (width : ℕ) (s : List ℕ) (at : ℕ) → length s ≤ at → number width s at ≡ 0
+unfolding number
+number_past zero s at h = refl
+number_past (suc width) s at h = rw (get_or-eq_default s 0 h, number_past width s (at + 1) (omega arith)) refl

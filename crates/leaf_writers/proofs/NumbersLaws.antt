@@ -2,13 +2,24 @@
 use Prim.Native.Nat.{ℕ, zero, suc, ◌+◌, ◌-◌, ◌/◌, ◌%◌, ◌≤◌, ◌<◌}
 use mathlib.Core.Path.{◌≡◌, refl, ap, sym, ◌∙◌}
 use mathlib.Core.List.{List, [], ◌∷◌, ◌++◌, append_assoc, append-nil}
+use mathlib.Core.Bool.{Bool, true, false}
 use lib.ListN.{length, take, drop, set}
 use lib.Seq.{drop-length, set_split, drop_at, length-take-le}
 use lib.Dec.{ltb}
 use native.Mathlib.Nat.{mod-eq_of_lt}
 use native.Mathlib.Omega.{arith}
-use borrow.Author.Tests.{lt-ltb, le-ltb}
+use borrow.Author.Tests.{lt-ltb, le-ltb, ltb-true, ltb-false}
+use Rattle.wire.specs.Field.{pick}
 use Rattle.rules.specs.Text.{digit, numeral}
+
+-- A byte that is a digit on both sides of ten.
+pub digit-is : (n d : ℕ) → (n < 10 → d ≡ 48 + n) → (10 ≤ n → d ≡ 87 + n) → d ≡ digit n
+unfolding digit
+digit-is n d low high = by (ltb n 10) refl
+  where
+    by : (t : Bool) → ltb n 10 ≡ t → d ≡ pick t (48 + n) (87 + n)
+    by true e = low (ltb-true n 10 e)
+    by false e = high (ltb-false n 10 e)
 
 -- A byte and what stands behind it.
 placed : (buf : List ℕ) (a d : ℕ) → a < length buf → drop a (set buf a d) ≡ d ∷ drop (suc a) buf

@@ -18,11 +18,13 @@ fn around(out: &mut [u8], p: Pen, before: &[u8], n: u32, behind: &[u8]) -> Pen
     pen::text(out, b, behind)
 }
 
-#[tactic(auto, unfolding(rules::specs::Text::missing_mark))]
+// Its texts by themselves, since it is the mark that is met most: what is copied is known to be so long.
 pub fn missing(out: &mut [u8], p: Pen, index: u32) -> Pen
     ensures { Wrote (page out.old p) (writing (missing_mark index)) (page out.new result) }
 {
-    around(out, p, b"<missing type 0x", index, b">")
+    let a = pen::text(out, p, b"<missing type 0x");
+    let b = hex(out, a, index);
+    pen::text(out, b, b">")
 }
 
 #[tactic(auto, unfolding(rules::specs::Text::unimplemented_mark))]

@@ -32,7 +32,11 @@ pub fn emit_shown(out: &mut [u8], p: Pen, name: &[u8]) -> Pen
             return q;
         }
         q = pen::text(out, q, b"\xef\xbf\xbd");
-        at = end + utf8::part_at(name, end).unwrap_or_else(|len| len);
+        // A run ends before a part that is no sequence.
+        let Err(len) = utf8::part_at(name, end) else {
+            return q;
+        };
+        at = end + len;
     }
     q
 }

@@ -6,7 +6,6 @@ ghost use Rattle.pen.specs.Page.{page, Wrote, writing};
 use pen::Pen;
 
 // From ten on a digit stands 39 further: that far is `a` from the byte behind `9`.
-#[tactic(auto, unfolding(rules::specs::Text::digit))]
 fn digit(n: u64) -> u8
     requires { n < 16 }
     ensures { result ≡ Text.digit n }

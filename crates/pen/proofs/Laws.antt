@@ -6,7 +6,7 @@ use mathlib.Core.List.{List, [], ◌∷◌, ◌++◌, append_assoc}
 use mathlib.Core.Bool.{Bool, true, false}
 use lib.ListN.{length, set, take, drop, get_or, length-set}
 use lib.Dec.{eqb, ltb}
-use lib.Seq.{drop-drop, set_out, sets, sets-eq}
+use lib.Seq.{drop-drop, set_out, sets, sets-eq, take-suc}
 use native.Mathlib.Decide.{dec_lt}
 use native.Mathlib.Numerals.{add-one}
 use native.Mathlib.Nat.{add-zero, zero-add, suc-add}
@@ -143,6 +143,13 @@ ink-append (x ∷ a) g b = ink-append a (put g x) b
 pub ink-nil : (g : PageRead) → ink g [] ≡ g
 unfolding ink
 ink-nil g = refl
+
+pub ink-one : (g : PageRead) (b : ℕ) → ink g (b ∷ []) ≡ put g b
+unfolding ink
+ink-one g b = refl
+
+pub ink-more : (g : PageRead) (s : List ℕ) (i : ℕ) → i < length s → ink g (take (i + 1) s) ≡ put (ink g (take i s)) (get_or s i 0)
+ink-more g s i h = rw (add-one, take-suc s i 0, ← ink-append, ink-one)
 
 finish-no-at : (x : Stop) (b : List ℕ) (at l o lim : ℕ) → let g = under b (record { at = at; last = l; opened = o; limit = lim; stop = x }) in finish g No ≡ g
 finish-no-at No b at l o lim = refl
@@ -505,6 +512,9 @@ run_length g (tr bs e ns c) = tallied-length c.opened (ink g bs) ∙ ink-length 
 
 pub wrote-length : {g h : Page} {t : Trace Refusal} → Wrote g t h → length h.buf ≡ length g.buf
 wrote-length {g} {h} {t} w = ap (λ (x : PageRead). length x.buf) w.is ∙ run_length (read_page g) t
+
+pub wrote-byte : {g h : Page} {b : ℕ} → read_page h ≡ put (read_page g) b → Wrote g (writing (b ∷ [])) h
+wrote-byte {g} {h} {b} e = record { is = e ∙ sym (run-say (read_page g) (b ∷ []) ∙ ink-one (read_page g) b) }
 
 -- what catches, by the first of the pen's two numbers
 pub caught-goes : {b : List ℕ} (p : Pen) {q : Pen} {u : ℕ → Trace Refusal} {k : Page} → p.stop ≡ 255 → q ≡ resumed p → Wrote (page b q) (u p.detail) k → Caught (page b p) u k

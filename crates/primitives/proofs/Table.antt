@@ -88,6 +88,11 @@ rising-next (a ∷ b ∷ l) e k h = by (ltb a b) refl e (rising-next (b ∷ l)) 
     by true f e next zero h = ltb-true a b f
     by true f e next (suc k) h = let r : k + 1 < length (b ∷ l) = omega arith in rw (add-one (suc k)) (rw (add-one k) at (next e k r))
 
+-- The table has 43 kinds.
+pub forty-three : length primitives ≡ 43
+unfolding primitives
+forty-three = refl
+
 -- The table's rule, computed once over the whole table: the codes rise, so each stands in it once.
 pub codes-rise : AllPairs (λ a b. a < b) (map (λ k. k.code) primitives)
 unfolding primitives rising

@@ -47,6 +47,10 @@ pub entries-back : (n k : ℕ) → k < entries_for n → k * 64 < n
 unfolding entries_for
 entries-back n k h = omega arith
 
+pub entries_over : (n k : ℕ) → n ≤ k * 64 → entries_for n ≤ k
+unfolding entries_for
+entries_over n k h = omega arith
+
 pub entries-past : (n k : ℕ) → entries_for n ≤ k → n ≤ k * 64
 unfolding entries_for
 entries-past n k h = omega arith

@@ -161,8 +161,8 @@ eights_skipped s from n rest eights e f g =
 
 -- A part lies inside; a run goes on behind one that is a sequence, and ends before another.
 module _ (s : List ℕ) (at : ℕ) (h : at < length s) where
-  pub part-inside : at + part_len s at ≤ length s
-  part-inside = omega (arith, reach-le (behind (get_or s at 0)) (drop (suc at) s), length-drop (suc at) s)
+  pub part-inside : (0 < part_len s at) × (at + part_len s at ≤ length s)
+  part-inside = (omega arith, omega (arith, reach-le (behind (get_or s at 0)) (drop (suc at) s), length-drop (suc at) s))
 
   run-whole-at : is_whole (behind (get_or s at 0)) (drop (suc at) s) ≡ true → run (drop at s) ≡ part_len s at + run (drop (at + part_len s at) s)
   run-whole-at e =
@@ -174,7 +174,7 @@ module _ (s : List ℕ) (at : ℕ) (h : at < length s) where
   run-past_part n f = by (is_whole (behind (get_or s at 0)) (drop (suc at) s)) refl f
     where
       by : (t : Bool) → is_whole (behind (get_or s at 0)) (drop (suc at) s) ≡ t → Ok n ≡ pick t (Ok (part_len s at)) (Err (part_len s at)) → (at + n ≤ length s) × (run (drop at s) ≡ n + run (drop (at + n) s))
-      by true e f = let k : part_len s at ≡ n = cc in rw (← k) (part-inside, run-whole-at e)
+      by true e f = let k : part_len s at ≡ n = cc in rw (← k) (part-inside.1, run-whole-at e)
       by false e f = cc
 
   pub run-at_part : (n : ℕ) → Err n ≡ part_at s at → run (drop at s) ≡ 0
@@ -234,6 +234,15 @@ module _ (s : List ℕ) (at end : ℕ) (e : end ≡ at + run (drop at s)) where
 
   pub run-kept : shown (drop at s) ≡ take (end - at) (drop at s) ++ shown (drop end s)
   run-kept = let k : end - at ≡ run (drop at s) = omega (arith, e) in rw (k, e, ← drop-drop (run (drop at s)) at s) tells.kept
+
+  pub run-stops : end < length s → part_at s end ≡ Err (part_len s end)
+  run-stops h =
+      let k : Stops (drop end s) = rw (e, ← drop-drop (run (drop at s)) at s) tells.stops in
+      let l : Stops (get_or s end 0 ∷ drop (suc end) s) = rw (drop-cons s end 0 h) at k in
+      rw l refl
+
+  pub run-part : (n : ℕ) → end < length s → Err n ≡ part_at s end → n ≡ part_len s end
+  run-part n h f = let k = run-stops h in cc
 
   pub run-behind : end < length s → shown (drop end s) ≡ replacement ++ shown (drop (end + part_len s end) s)
   run-behind h =

@@ -80,6 +80,10 @@ fn is_ascii(eight: &[u8; 8]) -> bool
 fn skip_ascii(s: &[u8], from: usize) -> usize
     ensures { (from ≤ result) × (from + run (drop from s.now) ≡ result + run (drop result s.now)) }
 {
+    // Asked first, for ill-formed bytes often stand one behind another, and a run begins at each.
+    if from < s.len() && 0x80 <= s[from] {
+        return from;
+    }
     let Some(rest) = s.get(from..) else {
         return from;
     };
