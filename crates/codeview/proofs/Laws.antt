@@ -1,26 +1,26 @@
 -- Laws of the parts of records: what follows from each goes by what is read. Assumes nothing.
-use Rattle.std.proofs.Common.{◌≡◌, ℕ, ◌+◌, ◌/◌, ◌%◌, true, false, leb, ◌<◌, ◌≤◌, List, length, Option, Some, None, Result, Ok, Err, refl, sym, ap}
+use Rattle.std.proofs.Common.{◌≡◌, ℕ, ◌+◌, ◌/◌, ◌%◌, true, false, leb, ltb, ◌<◌, ◌≤◌, List, length, Option, Some, None, Result, Ok, Err, refl, sym, ap}
 use Rattle.std.specs.Option.{option_map_or, IfSome}
 use Rattle.wire.specs.Leaf.{leaf, leaf_answer}
 use Rattle.wire.specs.Name.{name, name_answer}
 use Rattle.wire.specs.declared.leaf.Leaf.{Leaf}
 use Rattle.wire.specs.declared.name.Name.{Name}
 use Rattle.std.specs.Result.{IfOk}
-use Rattle.streams.specs.Stream.{look_from, stands}
+use Rattle.streams.specs.Stream.{look_from, stands, part}
 use Rattle.streams.specs.declared.stream.Stream.{Stream}
 use Rattle.streams.specs.declared.stream.Cursor.{Cursor}
 use Rattle.streams.specs.declared.stream.RecordAt.{RecordAt}
 use Rattle.streams.specs.declared.stream.Absent.{Absent}
 use Rattle.streams.specs.declared.stream.Absent.TheVariants as absent
 use Rattle.streams.proofs.Walk.{by_found, look-by, look-within}
-use Rattle.codeview.specs.Record.{names, pointer_mode, mode_answer}
-use Rattle.codeview.specs.Read.{primitive_of}
+use Rattle.codeview.specs.Record.{names, pointer_mode, mode_answer, type_of}
+use Rattle.codeview.specs.Read.{primitive_of, type_from}
 use Rattle.codeview.specs.declared.record.PointerMode.{PointerMode}
 use Rattle.codeview.specs.declared.record.UnlistedMode.{UnlistedMode}
 use Rattle.codeview.specs.declared.record.TypeData.{TypeData}
 use Rattle.codeview.specs.declared.record.TypeData.TheVariants as type
 use Rattle.streams.specs.declared.refusal.Refusal.{Refusal}
-use Rattle.streams.specs.declared.refusal.Refusal.TheVariants.{Missing}
+use Rattle.streams.specs.declared.refusal.Refusal.TheVariants.{Malformed, Missing, CrossModule}
 use Rattle.primitives.specs.Primitive.{primitives, first_of}
 use Rattle.primitives.proofs.Table.{first-if}
 use Rattle.wire.specs.Field.{pick}
@@ -68,6 +68,12 @@ module _ (s : List ℕ) (t : Stream) (from : Cursor) (i : ℕ) where
       go : (q : Result RecordAt Absent) → found ≡ q → IfOk q (λ r. (r.start ≤ r.end) × (r.end ≤ length s))
       go (Ok r) e = look-within s t from i refl r.kind r.start r.end e
       go (Err a) e = tt
+
+  pub by_type : type_from s t from i
+      ≡ pick (ltb i 0x1000) (primitive_of i)
+      (by_found found (λ kind start end. type_of (Err (Malformed i)) start kind (part s start end)) (Err (Missing i)) (Err (CrossModule i)))
+  unfolding type_from
+  by_type = rw by_look
 
 -- The mode of a pointer goes by what the conversion answers, and a primitive by the test of its code.
 abbrev pub by_answer : {A B E : Type 0} → Result A E → (A → B) → B → B

@@ -1,3 +1,4 @@
 pub mod IdRecord
+pub mod Kinds
 pub mod Read
 pub mod Record

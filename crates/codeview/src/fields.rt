@@ -84,6 +84,7 @@ impl<'a> Fields<'a> {
     }
 
     #[tactic(auto, using(crate::proofs::Laws::by_leaf))]
+    #[inline(always)]
     pub fn leaf_at(&self, at: usize, signed: bool) -> Result<Leaf, Refusal>
         ensures { result ≡ leaf (width_of signed) self.now.bytes.now at (λ v w n. Ok (record { value = v; width = w; next = n })) (Err (Malformed self.now.index)) }
     {
@@ -91,6 +92,7 @@ impl<'a> Fields<'a> {
     }
 
     #[tactic(auto, using(crate::proofs::Laws::by_name, crate::proofs::Laws::name_inside))]
+    #[inline(always)]
     pub fn name_at(&self, at: usize) -> Result<Name, Refusal>
         ensures read { result ≡ placed self.now.base self.now.bytes.now at Ok (Err (Malformed self.now.index)) }
         ensures inside { IfOk result (λ n. at + n.len < length self.now.bytes.now) }
@@ -104,6 +106,7 @@ impl<'a> Fields<'a> {
 
     // A name, and the unique name behind it where the properties say so.
     #[tactic(auto, using(crate::proofs::Laws::by_name), unfolding(crate::specs::Record::names))]
+    #[inline(always)]
     pub fn names_at(&self, at: usize, properties: u16) -> Result<(Name, Option<Name>), Refusal>
         ensures { result ≡ names self.now.base properties self.now.bytes.now at (λ n u. Ok (n, u)) (Err (Malformed self.now.index)) }
     {

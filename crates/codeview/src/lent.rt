@@ -1,9 +1,9 @@
 // The two streams that are lent to a call, what their checks found, and the places.
 ghost use Rattle.std.specs.Prelude.{◌≡◌};
-ghost use Rattle.codeview.specs.Read.{read_type_in, read_id_in};
+ghost use Rattle.codeview.specs.Read.{read_id_in};
 
-use crate::index::{IdIndex, TypeIndex};
-use crate::record::{IdData, TypeData};
+use crate::index::IdIndex;
+use crate::record::IdData;
 use streams::refusal::Refusal;
 
 #[derive(Clone, Copy)]
@@ -15,13 +15,6 @@ pub struct Lent<'a> {
 }
 
 impl<'a> Lent<'a> {
-    // What a type index stands for.
-    pub fn type_at(&self, index: TypeIndex) -> Result<TypeData, Refusal>
-        ensures { result ≡ read_type_in self.now.types.now self.now.bounds.now self.now.places.now index.0 }
-    {
-        crate::types::type_at(self.types, self.bounds, self.places, index)
-    }
-
     // What an id index stands for.
     pub fn id_at(&self, index: IdIndex) -> Result<IdData, Refusal>
         ensures { result ≡ read_id_in self.now.ids.now self.now.bounds.now self.now.places.now index.0 }

@@ -3,12 +3,14 @@
 
 ghost use Rattle.std.specs.Prelude.{◌≡◌};
 ghost use Rattle.codeview.specs.Record.{member_class, modifier_of, pointer_of, procedure_of, member_function_of, argument_list_of, enumerate_of, array_of, class_of, union_of, enumeration_of, type_of};
+ghost use Rattle.codeview.specs.Kinds.{NamedKind};
 ghost use Rattle.codeview.specs.Read.{primitive_of, read_type_in};
 ghost use Rattle.streams.specs.declared.refusal.Refusal.TheVariants.{Malformed};
 
 use crate::fields::{Fields, has_bit, refusal_of};
 use crate::index::TypeIndex;
 use crate::kinds::*;
+use crate::lent::Lent;
 use crate::record::{
     ArrayType, ClassKind, ClassType, EnumerateType, EnumerationType, MemberFunctionType,
     ModifierType, PointerMode, PointerType, PrimitiveType, ProcedureType, TypeData, UnionType,
@@ -92,6 +94,7 @@ fn argument_list(f: &Fields<'_>) -> Result<TypeData, Refusal>
     Ok(TypeData::ArgumentList(f.entries()?))
 }
 
+#[inline(always)]
 fn enumerate(f: &Fields<'_>) -> Result<TypeData, Refusal>
     ensures { result ≡ enumerate_of (Err (Malformed f.now.index)) f.now.base f.now.bytes.now }
 {
@@ -105,6 +108,7 @@ fn enumerate(f: &Fields<'_>) -> Result<TypeData, Refusal>
     }))
 }
 
+#[inline(always)]
 fn array(f: &Fields<'_>) -> Result<TypeData, Refusal>
     ensures { result ≡ array_of (Err (Malformed f.now.index)) f.now.base f.now.bytes.now }
 {
@@ -161,6 +165,7 @@ pub fn union_type(f: &Fields<'_>) -> Result<TypeData, Refusal>
     }))
 }
 
+#[inline(always)]
 fn enumeration(f: &Fields<'_>) -> Result<TypeData, Refusal>
     ensures { result ≡ enumeration_of (Err (Malformed f.now.index)) f.now.base f.now.bytes.now }
 {
@@ -177,39 +182,23 @@ fn enumeration(f: &Fields<'_>) -> Result<TypeData, Refusal>
     }))
 }
 
-// A class and a union, out of the way of the kinds that are met more. (The scan for a forward reference takes of them what it wants, and has them in place.)
-fn class_apart(f: &Fields<'_>, kind: ClassKind) -> Result<TypeData, Refusal>
-    ensures { result ≡ class_of (Err (Malformed f.now.index)) f.now.base kind f.now.bytes.now }
-{
-    class(f, kind)
-}
-
-fn union_apart(f: &Fields<'_>) -> Result<TypeData, Refusal>
-    ensures { result ≡ union_of (Err (Malformed f.now.index)) f.now.base f.now.bytes.now }
-{
-    union_type(f)
-}
-
-// A record of the type stream, by its kind.
+// A record of the type stream of a kind with a name, or whose fields are not read. Each decoder stands in place here: one that is called makes its answer
+// apart, and it is copied.
 #[tactic(auto, unfolding(crate::specs::Record::type_of))]
-fn decode_type(f: &Fields<'_>, kind: u16) -> Result<TypeData, Refusal>
+fn decode_named(f: &Fields<'_>, kind: u16) -> Result<TypeData, Refusal>
+    requires { NamedKind kind }
     ensures { result ≡ type_of (Err (Malformed f.now.index)) f.now.base kind f.now.bytes.now }
 {
     match kind {
-        LF_MODIFIER => modifier(f),
-        LF_POINTER => pointer(f),
-        LF_PROCEDURE => procedure(f),
-        LF_MFUNCTION => member_function(f),
-        LF_ARGLIST => argument_list(f),
-        LF_ENUMERATE => enumerate(f),
-        LF_ARRAY => array(f),
-        LF_CLASS => class_apart(f, ClassKind::Class),
-        LF_STRUCTURE => class_apart(f, ClassKind::Struct),
-        LF_INTERFACE => class_apart(f, ClassKind::Interface),
-        LF_UNION => union_apart(f),
-        LF_ENUM => enumeration(f),
-        LF_FIELDLIST | LF_BITFIELD | LF_METHODLIST => Ok(TypeData::Unhandled(kind)),
-        _ => Err(Refusal::UnlistedKind(u32::from(kind))),
+        LF_ENUMERATE => return enumerate(f),
+        LF_ARRAY => return array(f),
+        LF_CLASS => return class(f, ClassKind::Class),
+        LF_STRUCTURE => return class(f, ClassKind::Struct),
+        LF_INTERFACE => return class(f, ClassKind::Interface),
+        LF_UNION => return union_type(f),
+        LF_ENUM => return enumeration(f),
+        LF_FIELDLIST | LF_BITFIELD | LF_METHODLIST => return Ok(TypeData::Unhandled(kind)),
+        _ => return Err(Refusal::UnlistedKind(u32::from(kind))),
     }
 }
 
@@ -229,8 +218,33 @@ fn primitive(index: u32) -> Result<TypeData, Refusal>
     Ok(TypeData::Primitive(PrimitiveType { indirection, code }))
 }
 
+impl<'a> Lent<'a> {
+    // What a type index stands for. The kinds that are met most are matched here, and each arm returns: an answer that arms hand on together is made in a
+    // place of its own and copied.
+    #[tactic(auto, using(crate::proofs::Laws::by_type, crate::proofs::Laws::look_inside), unfolding(crate::specs::Record::type_of))]
+    pub fn type_at(&self, index: TypeIndex) -> Result<TypeData, Refusal>
+        ensures { result ≡ read_type_in self.now.types.now self.now.bounds.now self.now.places.now index.0 }
+    {
+        let i = index.0;
+        if i < 0x1000 {
+            return primitive(i);
+        }
+        let record = look_up_in(self.types, self.bounds, self.places, StreamKind::Types, i).map_err(
+            |a| refusal_of(a, i),
+        )?;
+        let f = &Fields::of(self.types, record, i);
+        match record.kind {
+            LF_POINTER => return pointer(f),
+            LF_MODIFIER => return modifier(f),
+            LF_PROCEDURE => return procedure(f),
+            LF_MFUNCTION => return member_function(f),
+            LF_ARGLIST => return argument_list(f),
+            kind => return decode_named(f, kind),
+        }
+    }
+}
+
 // What a type index stands for in a checked stream, found from its places.
-#[tactic(auto, using(crate::proofs::Laws::by_look, crate::proofs::Laws::look_inside), unfolding(crate::specs::Read::type_from))]
 pub fn type_at(
     s: &[u8],
     bounds: &[u32],
@@ -239,10 +253,11 @@ pub fn type_at(
 ) -> Result<TypeData, Refusal>
     ensures { result ≡ read_type_in s.now bounds.now places.now index.0 }
 {
-    let i = index.0;
-    if i < 0x1000 {
-        return primitive(i);
-    }
-    let record = look_up_in(s, bounds, places, StreamKind::Types, i).map_err(|a| refusal_of(a, i))?;
-    decode_type(&Fields::of(s, record, i), record.kind)
+    let lent = Lent {
+        types: s,
+        ids: &[],
+        bounds,
+        places,
+    };
+    lent.type_at(index)
 }

@@ -94,6 +94,7 @@ fn places_in<'a>(bounds: &'a [u32], places: &'a [u32], which: StreamKind) -> &'a
 }
 
 // The record of an index: in the stream, and by the places, that the numbers tell of.
+#[inline(always)]
 pub fn look_up_in(
     s: &[u8],
     bounds: &[u32],

@@ -54,6 +54,7 @@ fn value_number(s: &[u8], at: usize, lead: u16) -> Option<Leaf>
 
 // The numeric leaf at a place: a size, or where `signed` says so the value of an enumerate, whose bits stand for a signed number.
 #[tactic(auto, unfolding(crate::specs::Field::field, crate::specs::Leaf::leaf, crate::specs::Leaf::width_of))]
+#[inline(always)]
 pub fn leaf_at(s: &[u8], at: usize, signed: bool) -> Option<Leaf>
     ensures { result ≡ leaf_answer (width_of signed) s.now at }
 {

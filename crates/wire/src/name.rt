@@ -38,6 +38,7 @@ fn skip_eights(s: &[u8], at: usize) -> usize
 
 // The name at a place, up to the first zero.
 #[tactic(auto, using(crate::proofs::Laws::zero_here, crate::proofs::Laws::zero_later, crate::proofs::Laws::zero_none), unfolding(crate::specs::Name::name))]
+#[inline(always)]
 pub fn name_at(s: &[u8], at: usize) -> Option<Name>
     ensures { result ≡ name_answer s.now at }
 {
