@@ -12,7 +12,7 @@ use native.Mathlib.Nat.{one-mul}
 use native.Mathlib.Decide.{dec_lt}
 use native.Mathlib.Numerals.{add-one}
 use native.Mathlib.Omega.{arith}
-use Rattle.std.specs.List.{list_any}
+use Rattle.std.specs.List.{list_any, fold}
 use borrow.Author.Tests.{eq-eqb, ne_eqb, lt-leb, le-leb, lt-ltb}
 use Rattle.interpreter.specs.Trace.{key}
 use Rattle.rules.specs.Flags.{settings}
@@ -76,6 +76,13 @@ pub any-has : (l : List ℕ) (i : ℕ) → list_any (λ x. eqb (x % 4_294_967_29
 unfolding has_index keys_of
 any-has [] i = refl
 any-has (x ∷ l) i = ap (λ b. eqb (x % 4_294_967_296) i || b) (any-has l i)
+
+-- all asked, one after another, and the answers joined
+pub any-at-once : (p : ℕ → Bool) (l : List ℕ) (t : Bool) → fold (λ t x. t || p x) t l ≡ (t || list_any p l)
+any-at-once p [] true = refl
+any-at-once p [] false = refl
+any-at-once p (x ∷ l) true = any-at-once p l true
+any-at-once p (x ∷ l) false = any-at-once p l (p x)
 
 -- a push
 pub drop-set : {A : Type 0} (l : List A) (n : ℕ) (x : A) → n < length l → drop n (set l n x) ≡ x ∷ drop (n + 1) l

@@ -21,12 +21,13 @@ pub enum Way {
     List,
 }
 
-// Whether some key is that of an index.
+// Whether some key is that of an index. All are asked, and the answers joined without a branch, so that some are asked at once.
 fn has(keys: &[u64], index: u32) -> bool
     ensures { result ≡ list_any (λ key. eqb (key % 4_294_967_296) index) keys.now }
 {
-    keys.iter()
-        .any(|&key| key % 4_294_967_296 == u64::from(index))
+    keys.iter().fold(false, |found, &key| {
+        found | (key % 4_294_967_296 == u64::from(index))
+    })
 }
 
 // An open index with its way, packed in one number.
